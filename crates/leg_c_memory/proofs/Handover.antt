@@ -46,12 +46,15 @@ handed_out {𝓤 = 𝓤} 𝓛 b τ o n sized placed small =
 
 module _ {M : Type 1} {𝓤 : Ura M} {𝓛 : Logic 𝓤} {K : Type 0} {Γ : List (Item 𝓤)} {G : Goal 𝓤 𝓛.H} where
   pub by_answer : K → (b n : ℕ) (x : Answered.Denot) (v : Val) → Told b n x
-      → ((o : ℕ) → IsBlock b (block_ptr b o) (block_size n) → block_size n < 2 ^ 64 → n < 2 ^ 63 → v ≡ live 1 (vcons (memory_val (block_ptr b o) (block_size n)) vnil)
+      → ((o : ℕ) → IsBlock b (block_ptr b o) (block_size n) → block_size n < 2 ^ 64 → n < 2 ^ 63 → v ≡ live 1
+      (vcons (memory_val (block_ptr b o) (block_size n)) vnil)
       → Seq K 𝓛 (‵ (bytes_at (block_ptr b o) (block_size n)) ∷ Γ) G) → (v ≡ live 0 vnil → Seq K 𝓛 Γ G) → Seq K 𝓛 (‵ (Answered.own_val x (v ∷ [])) ∷ Γ) G
   by_answer t b n None v told some none =
-      fpick t (λ us. fsplit t $ feq_l t (λ is. fpick t (λ vss. fsplit t $ feq_l t (λ is'. drop t $ none (ap only is ∙ ap (λ (ws : List Val). live 0 (of_list ws)) is')))))
+      fpick t (λ us. fsplit t $
+      feq_l t (λ is. fpick t (λ vss. fsplit t $ feq_l t (λ is'. drop t $ none (ap only is ∙ ap (λ (ws : List Val). live 0 (of_list ws)) is')))))
   by_answer t b n (Some w) v told some none =
-      fpick t (λ us. fsplit t $ feq_l t (λ is. fpick t (λ vss. fsplit t $ feq_l t (λ is'. fsplit t $ move t (1 ∷ []) $ drop t $ fsplit t $ pure_l t (memory_own w.ptr w.size vss.0) (λ s.
+      fpick t (λ us. fsplit t $
+      feq_l t (λ is. fpick t (λ vss. fsplit t $ feq_l t (λ is'. fsplit t $ move t (1 ∷ []) $ drop t $ fsplit t $ pure_l t (memory_own w.ptr w.size vss.0) (λ s.
       in_a_block t w.ptr (λ u. bytes_at u w.size) (id⊢ 𝓤 (never 𝓤)) (λ b' o at.
       let parts = memory_told w.ptr w.size vss.0 s in
       let same : b' ≡ b = sym (ap block_of at) ∙ told.0 in
@@ -59,4 +62,5 @@ module _ {M : Type 1} {𝓤 : Ura M} {𝓛 : Logic 𝓤} {K : Type 0} {Γ : List
       let placed : IsMemory (block_ptr b o) (block_size n) = subst (λ (u : Ptr × ℕ). IsMemory u.0 u.1) (λ i. (lies i, told.1 i)) w.fits in
       rewrite t 0 (λ (u : ℕ × ℕ). ‵ (bytes_at (block_ptr u.0 o) u.1)) (λ i. (same i, told.1 i)) refl $
       some o (refl, placed) (subst (λ (k : ℕ). k < 2 ^ 64) told.1 parts.1) told.2
-      (ap only is ∙ ap (λ (xs : List Val). live 1 (of_list xs)) (is' ∙ ap (λ (xs : List Val). xs ++ []) parts.0) ∙ (λ i. live 1 (vcons (memory_val (lies i) (told.1 i)) vnil)))))))))
+      (ap only is ∙ ap (λ (xs : List Val). live 1 (of_list xs)) (is' ∙ ap (λ (xs : List Val). xs ++ []) parts.0)
+      ∙ (λ i. live 1 (vcons (memory_val (lies i) (told.1 i)) vnil)))))))))

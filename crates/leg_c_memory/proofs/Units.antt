@@ -40,11 +40,13 @@ module _ {M : Type 1} {𝓤 : Ura M} (𝓛 : Logic 𝓤) (b : ℕ) where
 
     pub cuts : ent 𝓤 (bytes x (m + n)) (sep 𝓤 (bytes x m) (bytes (x + m) n))
     cuts = qed 𝓛 (raw (bytes x (m + n)) ∷ []) ∵ rewrite ! 0 (λ (k : ℕ). raw (H.room (ty_array one_unit k) b x)) sum refl $
-        use1 𝓛 (raw (bytes x m) ⊛ raw (bytes (past one_unit (m / 16) x) n)) (room_cut 𝓛 one_unit (m / 16) (n / 16) b x) $ split ! $ rewrite ! 1 (λ (d : ℕ). raw (bytes d n)) far refl $ done !
+        use1 𝓛 (raw (bytes x m) ⊛ raw (bytes (past one_unit (m / 16) x) n)) (room_cut 𝓛 one_unit (m / 16) (n / 16) b x) $ split ! $
+        rewrite ! 1 (λ (d : ℕ). raw (bytes d n)) far refl $ done !
 
     pub glues : ent 𝓤 (sep 𝓤 (bytes x m) (bytes (x + m) n)) (bytes x (m + n))
     glues = qed 𝓛 (raw (bytes x m) ∷ raw (bytes (x + m) n) ∷ []) ∵ rewrite ! 1 (λ (d : ℕ). raw (bytes d n)) (sym far) refl $
-        use2 𝓛 (raw (H.room (ty_array one_unit (m / 16 + n / 16)) b x)) (room_glue 𝓛 one_unit (m / 16) (n / 16) b x) $ rewrite ! 0 (λ (k : ℕ). raw (H.room (ty_array one_unit k) b x)) (sym sum) refl $ done !
+        use2 𝓛 (raw (H.room (ty_array one_unit (m / 16 + n / 16)) b x)) (room_glue 𝓛 one_unit (m / 16) (n / 16) b x) $
+        rewrite ! 0 (λ (k : ℕ). raw (H.room (ty_array one_unit k) b x)) (sym sum) refl $ done !
 
   pub resized : (x m n : ℕ) → m ≡ n → ent 𝓤 (bytes x m) (bytes x n)
   resized x m n same = qed 𝓛 (raw (bytes x m) ∷ []) ∵ rewrite ! 0 (λ (k : ℕ). raw (bytes x k)) same refl $ done !
@@ -56,15 +58,19 @@ module _ {M : Type 1} {𝓤 : Ura M} (𝓛 : Logic 𝓤) (b : ℕ) where
       let ω : Ty = ty_struct [] (tcons τ tail) in
       let one : max (align τ) 1 ≡ align τ = omega (arith, align_pos τ) in
       let start : up (align τ) 0 ≡ 0 = flush (align τ) 0 (dv_zero (align τ)) in
-      let ends : end_of zero (tcons τ tail) ≡ n / 16 * 16 = ap (λ (k : ℕ). k + (n - size τ) * 1) (flush 1 (up (align τ) 0 + size τ) (dv_one (up (align τ) 0 + size τ)) ∙ ap (λ (k : ℕ). k + size τ) start) ∙ omega arith in
+      let ends : end_of zero (tcons τ tail) ≡ n / 16 * 16 =
+      ap (λ (k : ℕ). k + (n - size τ) * 1) (flush 1 (up (align τ) 0 + size τ) (dv_one (up (align τ) 0 + size τ)) ∙ ap (λ (k : ℕ). k + size τ) start)
+      ∙ omega arith in
       let same : size ω ≡ n / 16 * 16 = (λ i. up (one i) (ends i)) ∙ flush (align τ) (n / 16 * 16) (dv_mul (align τ) 16 (n / 16) dv) in
       let front : x + up (align τ) 0 ≡ x = ap (λ (k : ℕ). x + k) start ∙ omega arith in
       let Rest : SProp 𝓤 = rooms_at 𝓤 H tail (up (align τ) 0 + size τ) b x in
       let Front : SProp 𝓤 = H.room τ b (x + up (align τ) 0) in
       subst (λ (d : ℕ). ent 𝓤 (bytes x n) (sep 𝓤 (H.room τ b d) (wand 𝓤 (H.room τ b d) (bytes x n)))) front
       (qed 𝓛 (raw (bytes x n) ∷ []) ∵
-      use1 𝓛 (raw (H.room ω b x) ⊛ raw (wand 𝓤 (H.room ω b x) (bytes x n))) (𝓛.laws.room_as (units_of n) ω b x same (subst (λ (k : ℕ). Dv k 16) (sym one) dv)) $ split ! $
-      use1 𝓛 ((raw Front ⊛ raw Rest) ⊛ raw (wand 𝓤 (sep 𝓤 Front Rest) (H.room ω b x))) (𝓛.laws.room_fields [] (tcons τ tail) b x) $ split ! $ split ! $ frame ! $ assume ! (raw Front) $ join ! $
+      use1 𝓛 (raw (H.room ω b x) ⊛ raw (wand 𝓤 (H.room ω b x) (bytes x n))) (𝓛.laws.room_as (units_of n) ω b x same (subst (λ (k : ℕ). Dv k 16) (sym one) dv)) $
+      split ! $
+      use1 𝓛 ((raw Front ⊛ raw Rest) ⊛ raw (wand 𝓤 (sep 𝓤 Front Rest) (H.room ω b x))) (𝓛.laws.room_fields [] (tcons τ tail) b x) $ split ! $ split ! $
+      frame ! $ assume ! (raw Front) $ join ! $
       use2 𝓛 (raw (H.room ω b x)) (apply∗ 𝓤 (sep 𝓤 Front Rest) (H.room ω b x)) $ by ! (apply∗ 𝓤 (H.room ω b x) (bytes x n)))
 
   -- a hole's header is room for it

@@ -27,7 +27,9 @@ pub memory_told : (p : Ptr) (n : ℕ) (vs : List Val) → shadow (memory_own p n
 memory_told p n vs s = (s.1.0 ∙ (λ i. vstruct (of_list (s.1.1.0 i ++ (s.1.1.1.0.0 i ++ []))) ∷ []), s.1.1.1.0.1)
 
 pub memory_made : {M : Type 1} {𝓤 : Ura M} (𝓛 : Logic 𝓤) (p : Ptr) (n : ℕ) → n < 2 ^ 64 → ent 𝓤 (emp 𝓤) (sem 𝓛 (memory_own p n (memory_val p n ∷ [])))
-memory_made 𝓛 p n f = makes_shadow 𝓛 (memory_own p n (memory_val p n ∷ [])) (λ _. (tt, (tt, ((tt, tt), tt)))) ((ptr_val p ∷ [], (vint w64 n ∷ [], tt)), (refl, (refl, ((refl, f), tt))))
+memory_made 𝓛 p n f =
+    makes_shadow 𝓛 (memory_own p n (memory_val p n ∷ [])) (λ _. (tt, (tt, ((tt, tt), tt))))
+    ((ptr_val p ∷ [], (vint w64 n ∷ [], tt)), (refl, (refl, ((refl, f), tt))))
 
 -- a `Holes`
 abbrev pub list_val : Ptr → Val

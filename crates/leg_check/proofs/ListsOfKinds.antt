@@ -1,12 +1,13 @@
 -- Lists of violations of some kinds, one behind the other, are the list of all.
 use Rattle.std.proofs.Common.{◌≡◌, ◌<◌, ◌≤◌, List, ◌++◌, ◌⊎◌, inl, inr, subst, arith}
 use Rattle.std.proofs.lemmas.List.Elements.{All-append, All-weaker, Contains-append_left, Contains-append_right}
-use Rattle.leg_sweep.proofs.Lists.{AllPairs-append_by}
+use Rattle.leg_lemmas.proofs.Rising.{AllPairs-append_by}
 use Rattle.leg_lib_records.specs.Records.{LibraryModel}
 use Rattle.leg_design_records.specs.Records.{DesignModel}
 use Rattle.leg_design_records.specs.declared.fault.Fault.{Fault}
 use Rattle.leg_design_records.specs.declared.fault.Fault.TheVariants.{Short, OpenNet}
 use Rattle.leg_design_records.specs.Violation.{kind_number, ComesBefore, IsListOf}
+use Rattle.leg_design_records.proofs.FaultNumbers.{lower_kind_first}
 use Rattle.leg_rules.specs.Metal.Flat.{FlatModel, IsFlatOf}
 use Rattle.leg_flat.proofs.OneFlat.{one_flat}
 use Rattle.leg_rules.specs.Placement.Violations.{IsPlacementViolation}
@@ -16,14 +17,6 @@ use Rattle.leg_rules.specs.Spacing.Violations.IsSpacingViolation.{short, too_nea
 use Rattle.leg_rules.specs.Joins.Violations.{IsOpenViolation}
 use Rattle.leg_rules.specs.Joins.Violations.IsOpenViolation.{open_net}
 use Rattle.leg_rules.specs.Violations.{IsInFlat, IsOfMetal, IsViolation, IsOtherThanOpen}
-
--- a violation of a lower kind comes first
-lower_kind_first : (v w : Fault) → kind_number v < kind_number w → ComesBefore v w
-lower_kind_first v w less = record {
-  kind = omega (arith, less);
-  first = λ same. absurd (omega (arith, less, same));
-  second = λ same. absurd (omega (arith, less, same));
-}
 
 -- two lists, of which the first has the lower kinds
 both_lists : (P Q : Fault → Type 0) (xs ys : List Fault) → ((v w : Fault) → P v → Q w → kind_number v < kind_number w) → IsListOf P xs → IsListOf Q ys

@@ -21,21 +21,27 @@ unfolding design_of
 not_whole parts lacks = rw (lacks) refl
 
 -- without the lone pins there are too many terminals
-pub too_many_before : (parts : DesignParts) → is_whole parts ≡ true → nat_lt PART_LIMIT (terminal_count parts.design.nets + terminal_count parts.design.special) ≡ true → design_of parts ≡ None
+pub too_many_before : (parts : DesignParts) → is_whole parts ≡ true
+    → nat_lt PART_LIMIT (terminal_count parts.design.nets + terminal_count parts.design.special) ≡ true → design_of parts ≡ None
 unfolding design_of
 too_many_before parts whole many =
-    let more : terminal_count parts.design.nets + terminal_count parts.design.special ≤ all_terminals parts.design = no_fewer (record { nets = parts.design.nets; special = parts.design.special }) 0 parts.design.pins in
+    let more : terminal_count parts.design.nets + terminal_count parts.design.special ≤ all_terminals parts.design =
+    no_fewer (record { nets = parts.design.nets; special = parts.design.special }) 0 parts.design.pins in
     let still : nat_lt PART_LIMIT (all_terminals parts.design) ≡ true = grind (arith, nat_tests, more, many) in
     rw (whole, still) refl
 
 -- with the lone pins there are too many terminals
-pub too_many : (parts after : DesignParts) → after ≡ record parts { design = with_all_nets parts.design } → is_whole parts ≡ true → nat_lt PART_LIMIT (terminal_count after.design.nets + terminal_count after.design.special) ≡ true → design_of parts ≡ None
+pub too_many : (parts after : DesignParts) → after ≡ record parts { design = with_all_nets parts.design } → is_whole parts ≡ true
+    → nat_lt PART_LIMIT (terminal_count after.design.nets + terminal_count after.design.special) ≡ true → design_of parts ≡ None
 unfolding design_of
 too_many parts after is whole =
-    subst (λ (a : DesignParts). nat_lt PART_LIMIT (terminal_count a.design.nets + terminal_count a.design.special) ≡ true → design_of parts ≡ None) (sym is) (λ many. rw (whole, many) refl)
+    subst (λ (a : DesignParts). nat_lt PART_LIMIT (terminal_count a.design.nets + terminal_count a.design.special) ≡ true → design_of parts ≡ None) (sym is)
+    (λ many. rw (whole, many) refl)
 
 -- the design with its lone pins
-pub design_made : (parts after : DesignParts) → after ≡ record parts { design = with_all_nets parts.design } → is_whole parts ≡ true → nat_lt PART_LIMIT (terminal_count after.design.nets + terminal_count after.design.special) ≡ false → design_of parts ≡ Some after.design
+pub design_made : (parts after : DesignParts) → after ≡ record parts { design = with_all_nets parts.design } → is_whole parts ≡ true
+    → nat_lt PART_LIMIT (terminal_count after.design.nets + terminal_count after.design.special) ≡ false → design_of parts ≡ Some after.design
 unfolding design_of
 design_made parts after is whole =
-    subst (λ (a : DesignParts). nat_lt PART_LIMIT (terminal_count a.design.nets + terminal_count a.design.special) ≡ false → design_of parts ≡ Some a.design) (sym is) (λ few. rw (whole, few) refl)
+    subst (λ (a : DesignParts). nat_lt PART_LIMIT (terminal_count a.design.nets + terminal_count a.design.special) ≡ false → design_of parts ≡ Some a.design)
+    (sym is) (λ few. rw (whole, few) refl)

@@ -1,12 +1,9 @@
 -- Whether UNITS DISTANCE MICRONS stand in a row.
-use Rattle.std.proofs.Common.{◌≡◌, false, List, ℕ, Option, None, Some, is_some, codes, refl, ◌∙◌}
+use Rattle.std.proofs.Common.{◌≡◌, false, List, ℕ, None, Some, is_some, codes, refl, ◌∙◌}
+use Rattle.leg_lemmas.proofs.Options.{none_is}
 use Rattle.leg_lex.specs.Words.{Words, is_at, keyword_at}
 use Rattle.leg_lex.proofs.ReadPast.{keyword_is_there}
 use Rattle.leg_grammar.specs.Def.Header.{microns_at}
-
-none_is : {X : Type 0} (o : Option X) → is_some o ≡ false → o ≡ None
-none_is None none = refl
-none_is (Some x) none = absurd (let e : ⊥ = cc in e)
 
 not_there : (keyword : List ℕ) (words : Words) → is_at keyword words ≡ false → keyword_at keyword words ≡ None
 not_there keyword words other = none_is (keyword_at keyword words) (keyword_is_there keyword words ∙ other)

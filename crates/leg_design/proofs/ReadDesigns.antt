@@ -6,6 +6,7 @@ use Rattle.std.proofs.lemmas.Option.{slice_get_within}
 use Rattle.leg_lex.specs.Words.{Words, end_at, nothing_at}
 use Rattle.leg_lex.specs.Until.{until}
 use Rattle.leg_lex.specs.Statements.{at_end}
+use Rattle.leg_lex.proofs.GivesAll.{until_gives}
 use Rattle.leg_lib_records.specs.Records.{LibraryModel}
 use Rattle.leg_design_records.specs.declared.limits.TheConstants.{PART_LIMIT}
 use Rattle.leg_design_records.specs.declared.records.Terminal.{Terminal}
@@ -15,7 +16,7 @@ use Rattle.leg_grammar.specs.Def.Parts.{DesignParts, no_parts, known}
 use Rattle.leg_grammar.specs.Def.Form.{def_form_at, all_nets, with_all_nets, design_of, design_in}
 use Rattle.leg_design_records.specs.WellFormedNets.{IsTerminal, IsNet, HasNets}
 use Rattle.leg_design_records.specs.WellFormed.{IsWellFormed}
-use Rattle.leg_design_common.proofs.Gives.{Gives, gives_some, gives_bind, gives_skip, when_gives, unless_gives, until_gives}
+use Rattle.leg_design_common.proofs.Gives.{Gives, gives_some, gives_bind, gives_skip, when_gives, unless_gives}
 use Rattle.leg_design_nets.proofs.ReadTerminals.{IsKnownTerminal}
 use Rattle.leg_design_nets.proofs.ReadNets.{IsKnownNet}
 use Rattle.leg_design_nets.proofs.LonePinsListed.{lone_pins_listed}
@@ -59,8 +60,16 @@ module _ (parts : DesignParts) where
       let all = lone_pins_listed (known parts.design) (lists_of parts.design.nets parts.design.special) sound.entries in
       let entries = all.entries in
       record {
-        nets = record { each = All-weaker (IsKnownNet (known parts.design) false) (IsNet said false) (net_is false) (all_nets parts.design).nets entries.nets; apart = entries.nets_apart };
-        special = record { each = All-weaker (IsKnownNet (known parts.design) true) (IsNet said true) (net_is true) (all_nets parts.design).special entries.special; apart = entries.special_apart };
+        nets = record {
+          each = All-weaker (IsKnownNet (known parts.design) false) (IsNet said false) (net_is false)
+              (all_nets parts.design).nets entries.nets;
+          apart = entries.nets_apart;
+        };
+        special = record {
+          each = All-weaker (IsKnownNet (known parts.design) true) (IsNet said true) (net_is true)
+              (all_nets parts.design).special entries.special;
+          apart = entries.special_apart;
+        };
         one_net = entries.one_net;
         lone = λ p pin at. all.in_nets p pin (slice_get_within parts.design.pins p pin at) at;
         few = entries.few;
@@ -77,7 +86,8 @@ record AreRead (library : LibraryModel) (parts : DesignParts) : Type 0 where
   sound : HasSoundParts library parts
   nets : HasNetParts parts
 
-form_is_read : (library : LibraryModel) (parts : DesignParts) (words : Words) → AreRead library parts → Gives (λ said. AreRead library said.0) (def_form_at parts words)
+form_is_read : (library : LibraryModel) (parts : DesignParts) (words : Words) → AreRead library parts
+    → Gives (λ said. AreRead library said.0) (def_form_at parts words)
 form_is_read library parts words before = record {
   given = λ next is. record {
     sound = (form_keeps library parts words before.sound).given next is;
@@ -116,7 +126,8 @@ design_gives library parts are =
 
 forms_give : (library : LibraryModel) (words : Words) → Gives (λ forms. AreRead library forms.0) (until at_end def_form_at (no_parts library) words)
 forms_give library words =
-    until_gives (AreRead library) at_end def_form_at (form_is_read library) (no_parts library) words (record { sound = no_parts_sound library; nets = no_net_parts library })
+    until_gives (AreRead library) at_end def_form_at (form_is_read library) (no_parts library) words
+    (record { sound = no_parts_sound library; nets = no_net_parts library })
 
 text_gives : (library : LibraryModel) (words : Words) → Gives (IsRead library) (design_in library words)
 unfolding design_in

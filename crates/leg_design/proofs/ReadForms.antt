@@ -44,7 +44,8 @@ pub record AreSections (library : LibraryModel) (vias : List ViaModel) (componen
 -- what was read so far is well-formed, and under this library
 pub record HasSoundParts (library : LibraryModel) (parts : DesignParts) : Type 0 where
   pub same : parts.design.library ≡ library
-  pub header : AreHeaderForms parts.design.library parts.has.name parts.has.die parts.design.name parts.design.divider parts.design.bus parts.design.die parts.design.rows parts.design.tracks
+  pub header : AreHeaderForms parts.design.library parts.has.name parts.has.die parts.design.name parts.design.divider parts.design.bus parts.design.die
+      parts.design.rows parts.design.tracks
   pub sections : AreSections parts.design.library parts.design.vias parts.design.components parts.design.pins parts.design.blockages
 
 word_after_gives : (keyword : List ℕ) (words : Words) → Gives (λ said. is_word said.0 ≡ true) (word_after keyword words)

@@ -65,7 +65,8 @@ only_others nets others before a b t in_a in_b =
     before a b t (Contains-append_right nets others a in_a) (Contains-append_right nets others b in_b)
 
 -- a section begins, beside the other's entries
-begins : (before : KnownModel) (special : Bool) (others : List NetModel) → AreInOneNet others → length others ≤ ENTRY_LIMIT → wire_count others ≤ PART_LIMIT → AreEntries before special others []
+begins : (before : KnownModel) (special : Bool) (others : List NetModel) → AreInOneNet others → length others ≤ ENTRY_LIMIT → wire_count others ≤ PART_LIMIT
+    → AreEntries before special others []
 begins before special others one_net few few_wires = record {
   each = All-nil (IsKnownNet before special);
   apart = λ i less. absurd (omega arith);
@@ -164,7 +165,9 @@ module _ (parts : DesignParts) (words : Words) (sound : HasNetParts parts) where
       let few = entries.few in
       let few_wires = entries.few_wires in
       gives_skip (unless parts.has.nets) (λ once.
-      gives_bind (nets_give (known parts.design) false parts.design.special (begins (known parts.design) false parts.design.special (only_others parts.design.nets parts.design.special entries.one_net) (omega arith) (omega arith)) words) (λ nets are.
+      gives_bind (nets_give (known parts.design) false parts.design.special
+      (begins (known parts.design) false parts.design.special (only_others parts.design.nets parts.design.special entries.one_net) (omega arith)
+      (omega arith)) words) (λ nets are.
       gives_some _ (record {
         no_vias = sound.no_vias;
         no_components = sound.no_components;
@@ -187,7 +190,9 @@ module _ (parts : DesignParts) (words : Words) (sound : HasNetParts parts) where
       let few = entries.few in
       let few_wires = entries.few_wires in
       gives_skip (unless parts.has.special) (λ once.
-      gives_bind (nets_give (known parts.design) true parts.design.nets (begins (known parts.design) true parts.design.nets (only_others parts.design.special parts.design.nets (other_order parts.design.nets parts.design.special entries.one_net)) (omega arith) (omega arith)) words) (λ special are.
+      gives_bind (nets_give (known parts.design) true parts.design.nets
+      (begins (known parts.design) true parts.design.nets (only_others parts.design.special parts.design.nets
+      (other_order parts.design.nets parts.design.special entries.one_net)) (omega arith) (omega arith)) words) (λ special are.
       let few_too = are.few in
       let few_wires_too = are.few_wires in
       gives_some _ (record {

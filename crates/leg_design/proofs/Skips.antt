@@ -5,7 +5,8 @@ use Rattle.leg_lex.specs.Past.{past}
 use Rattle.leg_lex.proofs.Parts.{made_is, rest_is}
 use Rattle.leg_grammar.specs.Def.Skipped.{past_def_section}
 
-pub past_section_from : (words : Words) (keyword : List ℕ) (rest : Words) → next_at words ≡ Some (keyword, rest) → past_def_section words ≡ past (end_at keyword) rest
+pub past_section_from : (words : Words) (keyword : List ℕ) (rest : Words) → next_at words ≡ Some (keyword, rest)
+    → past_def_section words ≡ past (end_at keyword) rest
 unfolding past_def_section next_at
 past_section_from [] keyword rest next = absurd (let e : ⊥ = cc in e)
 past_section_from (word ∷ words) keyword rest next =

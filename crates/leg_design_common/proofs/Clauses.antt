@@ -33,13 +33,15 @@ unmet true said = absurd (let e : ⊥ = cc in e)
 unmet false said = refl
 
 -- one more clause
-pub one_more : (clauses : List Words) (i : ℕ) (x : Words) → i < length clauses → x ≡ get_or clauses i x → when (is_clause x) ≡ Some tt → list_all is_clause (take i clauses) ≡ true → list_all is_clause (take (i + 1) clauses) ≡ true
+pub one_more : (clauses : List Words) (i : ℕ) (x : Words) → i < length clauses → x ≡ get_or clauses i x → when (is_clause x) ≡ Some tt
+    → list_all is_clause (take i clauses) ≡ true → list_all is_clause (take (i + 1) clauses) ≡ true
 one_more clauses i x less is said before =
     let there : is_clause (get_or clauses i x) ≡ true = rw (← is) (met (is_clause x) said) in
     list_all_more is_clause clauses i x less ∙ rw (before, there) refl
 
 -- one that is none
-pub one_not : (clauses : List Words) (i : ℕ) (x : Words) → i < length clauses → x ≡ get_or clauses i x → when (is_clause x) ≡ None → when (list_all is_clause clauses) ≡ None
+pub one_not : (clauses : List Words) (i : ℕ) (x : Words) → i < length clauses → x ≡ get_or clauses i x → when (is_clause x) ≡ None
+    → when (list_all is_clause clauses) ≡ None
 one_not clauses i x less is said =
     let there : is_clause (get_or clauses i x) ≡ false = rw (← is) (unmet (is_clause x) said) in
     rw (list_all_at is_clause clauses i x less there) refl

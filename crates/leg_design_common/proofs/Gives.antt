@@ -1,15 +1,11 @@
 -- What holds of all that a form may say: where places are found, and what each of many forms keeps.
-use Rattle.std.proofs.Common.{◌≡◌, ℕ, ◌<◌, Bool, true, false, List, [], ◌∷◌, length, All, Option, None, Some, is_some, refl, map}
-use Rattle.std.proofs.lemmas.List.{length-map}
+use Rattle.std.proofs.Common.{◌≡◌, ℕ, Bool, true, false, List, [], ◌∷◌, All, Option, None, Some, is_some, refl}
 use Rattle.std.proofs.lemmas.List.Elements.{All-head, All-tail}
 use Rattle.leg_lex.specs.Words.{Words, is_name, is_word, next_at, name_at, word_at}
-use Rattle.leg_lex.specs.Until.{until, over}
+use Rattle.leg_lex.specs.Until.{over}
 use Rattle.leg_lex.specs.Statements.{at_end}
-use Rattle.leg_lex.specs.NameLookup.{place_of}
 pub use Rattle.leg_lex.proofs.Gives.{Gives, gives_none, gives_some, gives_bind, gives_skip, gives_itself, gives_choice, gives_if, gives_less}
-use Rattle.leg_lex.proofs.Until.{until_keeps}
-use Rattle.leg_lex.proofs.EachElement.{over_keeps}
-use Rattle.leg_lex.proofs.NameLookup.{place_stands}
+use Rattle.leg_lex.proofs.GivesAll.{until_gives}
 use Rattle.leg_grammar.specs.Def.Guard.{when, unless}
 use Rattle.leg_grammar.specs.Def.Section.{section_at}
 
@@ -26,36 +22,19 @@ pub none_from : (o : Option ℕ) → is_some o ≡ false → o ≡ None
 none_from None none = refl
 none_from (Some n) none = absurd (let e : ⊥ = cc in e)
 
--- A place that is found is one of the names'.
-pub place_gives_within : (name : List ℕ) (names : List (List ℕ)) → Gives (λ i. i < length names) (place_of name names)
-place_gives_within name names = record { given = λ i is. (place_stands name names i is).within }
-
--- the same where the names are those of some elements
-pub named_gives_within : {X : Type 0} (name_of : X → List ℕ) (name : List ℕ) (xs : List X) → Gives (λ i. i < length xs) (place_of name (map name_of xs))
-named_gives_within name_of name xs = gives_less (place_gives_within name (map name_of xs)) (λ i less. rw (length-map xs name_of) at less)
-
--- What each form keeps, all forms keep.
-pub until_gives : {S : Type 0} (P : S → Type 0) (stop : Words → Bool) (form : S → Words → Option (S × Words)) → ((made : S) (words : Words) → P made → Gives (λ said. P said.0) (form made words)) → (made : S) (words : Words) → P made → Gives (λ said. P said.0) (until stop form made words)
-until_gives P stop form keeps made words holds = record {
-  given = λ y is. until_keeps stop form P (λ before at next rest held said. (keeps before at held).given (next, rest) said) made words y.0 y.1 holds is;
-}
-
 -- What each element of a kind keeps, all elements keep.
-pub each_gives : {S X : Type 0} (P : S → Type 0) (Q : X → Type 0) (step : S → X → Option S) → ((made : S) (x : X) → P made → Q x → Gives P (step made x)) → (made : S) (xs : List X) → P made → All Q xs → Gives P (over step made xs)
+pub each_gives : {S X : Type 0} (P : S → Type 0) (Q : X → Type 0) (step : S → X → Option S) → ((made : S) (x : X) → P made → Q x → Gives P (step made x))
+    → (made : S) (xs : List X) → P made → All Q xs → Gives P (over step made xs)
 unfolding over
 each_gives P Q step keeps made [] holds each = gives_some made holds
 each_gives P Q step keeps made (x ∷ xs) holds each =
     gives_bind (keeps made x holds (All-head Q x xs each)) (λ next held.
     each_gives P Q step keeps next xs held (All-tail Q x xs each))
 
--- What each element keeps, all elements keep.
-pub over_gives : {S X : Type 0} (P : S → Type 0) (step : S → X → Option S) → ((made : S) (x : X) → P made → Gives P (step made x)) → (made : S) (xs : List X) → P made → Gives P (over step made xs)
-over_gives P step keeps made xs holds = record {
-  given = λ y is. over_keeps step P (λ before x next held said. (keeps before x held).given next said) made xs y holds is;
-}
-
 -- What each entry keeps, a section keeps.
-pub section_gives : {S : Type 0} (P : S → Type 0) (keyword : List ℕ) (entry : S → Words → Option (S × Words)) → ((made : S) (words : Words) → P made → Gives (λ said. P said.0) (entry made words)) → (made : S) (words : Words) → P made → Gives (λ said. P said.0) (section_at keyword entry made words)
+pub section_gives : {S : Type 0} (P : S → Type 0) (keyword : List ℕ) (entry : S → Words → Option (S × Words))
+    → ((made : S) (words : Words) → P made → Gives (λ said. P said.0) (entry made words)) → (made : S) (words : Words) → P made
+    → Gives (λ said. P said.0) (section_at keyword entry made words)
 unfolding section_at
 section_gives P keyword entry keeps made words holds =
     gives_skip _ (λ start.

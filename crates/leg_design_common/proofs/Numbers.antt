@@ -1,6 +1,6 @@
 -- The whole numbers that words say are within their limit, and so they are coordinates.
-use Rattle.std.proofs.Common.{◌≡◌, ℕ, Bool, true, false, List, [], ◌∷◌, ℤ, pos, ◌-ℤ◌, unsigned_abs, int_lt, int_le, to_z, of_z, w64, SFits, Some, Result, Ok, Err, nat_le, refl, arith}
-use Rattle.std.proofs.lemmas.Int.{ints, to_z-of_z, fits_signed_from_abs}
+use Rattle.std.proofs.Common.{◌≡◌, ℕ, Bool, true, false, List, [], ◌∷◌, ℤ, pos, ◌-ℤ◌, int_lt, int_le, Some, Result, Ok, Err, nat_le, refl, arith}
+use Rattle.std.proofs.lemmas.Int.{ints}
 use Rattle.std.proofs.lemmas.Bool.Decides.{nat_tests}
 use Rattle.std.specs.Str.Parse.{digits_value}
 use Rattle.leg_lex.specs.declared.limits.TheConstants.{NUMBER_LIMIT}
@@ -8,11 +8,8 @@ use Rattle.leg_lex.specs.declared.fault.NumFault.{NumFault}
 use Rattle.leg_lex.specs.Number.{IsNumber, whole_of, is_whole, is_negative, without_sign, within, signed}
 use Rattle.leg_lex.specs.Words.{Words, next_at, whole_at}
 use Rattle.leg_lex.proofs.Parts.{made_is}
+use Rattle.leg_lex.proofs.InBits.{magnitude}
 use Rattle.leg_geom.specs.Plane.{IsCoordinate}
-
-magnitude : (negative : Bool) (n : ℕ) → unsigned_abs (signed negative n) ≡ n
-magnitude true n = omega (arith, ints)
-magnitude false n = refl
 
 within_is : (negative : Bool) (n : ℕ) (z : ℤ) → within NUMBER_LIMIT negative n ≡ Ok z → IsNumber z
 within_is negative n z is = by (nat_le n NUMBER_LIMIT) refl where
@@ -43,13 +40,6 @@ number_is_coordinate z number = omega arith
 
 pub whole_is_coordinate : (words : Words) (z : ℤ) (rest : Words) → whole_at words ≡ Some (z, rest) → IsCoordinate z
 whole_is_coordinate words z rest said = number_is_coordinate z (whole_is_number words z rest said)
-
--- A number stands in 64 bits as it is.
-pub number_fits : (z : ℤ) → IsNumber z → SFits w64 z
-number_fits z number = fits_signed_from_abs w64 z (omega arith)
-
-pub number_kept : (z : ℤ) → IsNumber z → to_z w64 (of_z w64 z) ≡ z
-number_kept z number = to_z-of_z w64 z (number_fits z number)
 
 pub one_less : (z : ℤ) → IsNumber z → int_lt z (pos 1) ≡ false → IsNumber (z -ℤ pos 1)
 one_less z number some = grind (arith, ints)

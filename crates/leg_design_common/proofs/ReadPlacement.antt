@@ -1,6 +1,7 @@
 -- Points, rectangles and places that are read are of numbers within their limit.
 use Rattle.std.proofs.Common.{ℤ, Bool, true, false, cond, ◌&&◌, int_lt, Some, codes}
 use Rattle.std.proofs.lemmas.Bool.{and_parts}
+use Rattle.leg_lemmas.proofs.Integers.{lt_from_test}
 use Rattle.leg_lex.specs.Number.{IsNumber}
 use Rattle.leg_lex.specs.Words.{Words, is_at, whole_at}
 use Rattle.leg_geom.specs.Plane.{PointModel}
@@ -10,7 +11,6 @@ use Rattle.leg_design_records.specs.declared.records.Status.{Status}
 use Rattle.leg_design_records.specs.declared.records.Status.TheVariants.{Placed, Fixed, Cover}
 use Rattle.leg_grammar.specs.Def.Placement.{spot_at, rect_at, place_at, place_as, placed_in}
 use Rattle.leg_design_records.specs.WellFormedParts.{IsPosition, IsArea, IsPlaced}
-use Rattle.leg_design_common.proofs.Corners.{lt_is}
 use Rattle.leg_design_common.proofs.Numbers.{whole_is_number}
 use Rattle.leg_design_common.proofs.Gives.{Gives, gives_none, gives_some, gives_bind, gives_skip, gives_choice, gives_if}
 
@@ -43,8 +43,8 @@ between_gives p q at_p at_q =
       x2 = one_of (int_lt q.x p.x) p.x q.x at_p.x at_q.x;
       y2 = one_of (int_lt q.y p.y) p.y q.y at_p.y at_q.y;
       proper = record {
-        wide = lt_is (sides_between p q).x1 (sides_between p q).x2 parts.0;
-        high = lt_is (sides_between p q).y1 (sides_between p q).y2 parts.1;
+        wide = lt_from_test (sides_between p q).x1 (sides_between p q).x2 parts.0;
+        high = lt_from_test (sides_between p q).y1 (sides_between p q).y2 parts.1;
       };
     }))
     (λ none. gives_none)
@@ -64,7 +64,8 @@ place_gives words =
     gives_skip _ (λ orient.
     gives_some _ position))
 
-place_as_gives : (status : Status) → ((place : Place) → IsPosition place.at → IsPlaced status (Some place)) → (clause : Words) → Gives (λ said. IsPlaced said.0 (Some said.1)) (place_as status clause)
+place_as_gives : (status : Status) → ((place : Place) → IsPosition place.at → IsPlaced status (Some place)) → (clause : Words)
+    → Gives (λ said. IsPlaced said.0 (Some said.1)) (place_as status clause)
 unfolding place_as
 place_as_gives status placed clause =
     gives_skip _ (λ start.

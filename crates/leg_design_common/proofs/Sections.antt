@@ -14,7 +14,8 @@ section_start_below keyword words =
     below_bind (omega arith) (whole_below start.1) (λ count m. below_more (omega arith) (mark_below 59 count.1)))
 
 -- a section whose entries each take a word
-pub section_below : {S : Type 0} (keyword : List ℕ) (entry : S → Words → Option (S × Words)) → Shortens entry → (made : S) (words : Words) → Below (length words) (section_at keyword entry made words)
+pub section_below : {S : Type 0} (keyword : List ℕ) (entry : S → Words → Option (S × Words)) → Shortens entry → (made : S) (words : Words)
+    → Below (length words) (section_at keyword entry made words)
 unfolding section_at
 section_below keyword entry shortens made words =
     below_bind (omega arith) (section_start_below keyword words) (λ start l.

@@ -1,5 +1,5 @@
 -- The vias of the library count before those of the design.
-use Rattle.std.proofs.Common.{◌≡◌, ℕ, zero, suc, ◌+◌, ◌<◌, ◌≤◌, ◌-◌, ◌++◌, List, [], ◌∷◌, length, get_or, slice_get, Option, None, Some, nat_lt, option_map, Bor, refl, sym, ap, arith}
+use Rattle.std.proofs.Common.{◌≡◌, ℕ, ◌+◌, ◌<◌, ◌≤◌, ◌-◌, ◌++◌, List, length, get_or, slice_get, Option, None, Some, nat_lt, option_map, Bor, refl, sym, arith}
 use Rattle.leg_lex.specs.NameLookup.{place_of}
 use Rattle.leg_lex.proofs.NameLookup.{place_stands}
 use Rattle.leg_lib_records.specs.Records.{LibraryModel, ViaModel, via_names}
@@ -8,24 +8,15 @@ use Rattle.std.specs.Option.{is_some, IfSome, option_or, option_copied}
 use Rattle.std.proofs.lemmas.List.{length-map}
 use Rattle.std.proofs.lemmas.Bool.Decides.{nat_tests}
 use Rattle.std.proofs.lemmas.Option.{slice_get_past, slice_get_read}
-
--- an element of the first list
-pub in_first : {X : Type 0} (xs ys : List X) (i : ℕ) → i < length xs → slice_get (xs ++ ys) i ≡ slice_get xs i
-in_first [] ys i less = absurd (omega arith)
-in_first (x ∷ xs) ys zero less = refl
-in_first (x ∷ xs) ys (suc i) less = in_first xs ys i (omega arith)
-
-behind : {X : Type 0} (xs ys : List X) (i j : ℕ) → i ≡ length xs + j → slice_get (xs ++ ys) i ≡ slice_get ys j
-behind [] ys i j is = ap (slice_get ys) (omega (arith, is))
-behind (x ∷ xs) ys zero j is = absurd (omega (arith, is))
-behind (x ∷ xs) ys (suc i) j is = behind xs ys i j (omega (arith, is))
+use Rattle.leg_lemmas.proofs.Places.{get_behind}
 
 -- an element of the second
 pub in_second : {X : Type 0} (xs ys : List X) (i : ℕ) → length xs ≤ i → slice_get (xs ++ ys) i ≡ slice_get ys (i - length xs)
-in_second xs ys i past = behind xs ys i (i - length xs) (omega arith)
+in_second xs ys i past = get_behind xs ys i (i - length xs) (omega arith)
 
 -- what a slice's get answers, is the element of that place
-pub got_is : {X : Type 0} (xs : List X) (i : ℕ) (got : Option (Bor X)) → is_some got ≡ nat_lt i (length xs) → IfSome got (λ x. x.now ≡ get_or xs i x.now) → option_copied got ≡ slice_get xs i
+pub got_is : {X : Type 0} (xs : List X) (i : ℕ) (got : Option (Bor X)) → is_some got ≡ nat_lt i (length xs) → IfSome got (λ x. x.now ≡ get_or xs i x.now)
+    → option_copied got ≡ slice_get xs i
 got_is xs i None found is = sym (slice_get_past xs i (grind (arith, nat_tests)))
 got_is xs i (Some x) found is = sym (slice_get_read xs (length xs) i x.now refl (grind (arith, nat_tests)) is)
 
@@ -37,5 +28,8 @@ place_within name vias number is =
     rw (length-map vias (λ v. v.name)) at within
 
 -- a via that the library hasn't, counts behind those of the library
-pub named_second : (library : LibraryModel) (vias : List ViaModel) (name : List ℕ) (number : ℕ) → None ≡ place_of name (via_names library) → Some number ≡ place_of name (design_via_names vias) → Some (length library.vias + number) ≡ option_or (place_of name (via_names library)) (option_map (λ k. length library.vias + k) (place_of name (design_via_names vias)))
+pub named_second : (library : LibraryModel) (vias : List ViaModel) (name : List ℕ) (number : ℕ) → None ≡ place_of name (via_names library)
+    → Some number ≡ place_of name (design_via_names vias)
+    → Some (length library.vias + number) ≡ option_or (place_of name (via_names library))
+    (option_map (λ k. length library.vias + k) (place_of name (design_via_names vias)))
 named_second library vias name number none found = rw (← none, ← found) refl

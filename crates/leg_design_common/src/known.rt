@@ -33,7 +33,7 @@ impl<'k, 'a, A: Allocator + Copy> Model for Known<'k, 'a, A> {
 
 impl<'k, 'a, A: Allocator + Copy> Known<'k, 'a, A> {
     /// The via of this number: those of the library count first.
-    #[tactic(auto, using(crate::proofs::ViaNumbers::in_first, crate::proofs::ViaNumbers::in_second))]
+    #[tactic(auto, using(leg_lemmas::proofs::Places::in_first, crate::proofs::ViaNumbers::in_second))]
     pub fn via_numbered(&self, number: usize) -> Option<&Via<'a, A>>
         ensures { option_copied result ≡ via_numbered self.now number }
     {

@@ -92,7 +92,8 @@ entry_shortens library blockages words =
     (below_ask (when (is_room_for blockage.0 blockages)) (λ room. below_some (blockages ++ blockage.0 ∷ []) blockage.1 less))
     (below_some blockages blockage.1 less))
 
-pub entry_shorter : (library : LibraryModel) (blockages more : List BlockageModel) (words rest : Words) → blockage_entry library blockages words ≡ Some (more, rest) → length rest < length words
+pub entry_shorter : (library : LibraryModel) (blockages more : List BlockageModel) (words rest : Words)
+    → blockage_entry library blockages words ≡ Some (more, rest) → length rest < length words
 entry_shorter library blockages more words rest said = (entry_shortens library blockages words).left more rest said
 
 pub blockages_below : (library : LibraryModel) (words : Words) → Below (length words) (blockages_at library words)
@@ -100,13 +101,15 @@ unfolding blockages_at
 blockages_below library words = section_below (codes "BLOCKAGES") (blockage_entry library) (entry_shortens library) [] words
 
 -- One blockage more has so many rectangles more.
-pub rect_count_push : (blockages : List BlockageModel) (blockage : BlockageModel) → rect_count (blockages ++ blockage ∷ []) ≡ rect_count blockages + length blockage.rects
+pub rect_count_push : (blockages : List BlockageModel) (blockage : BlockageModel)
+    → rect_count (blockages ++ blockage ∷ []) ≡ rect_count blockages + length blockage.rects
 rect_count_push [] blockage = omega arith
 rect_count_push (first ∷ blockages) blockage =
     let more = rect_count_push blockages blockage in
     omega (arith, more)
 
 -- the same, where the rectangles so far were counted
-pub more_counted : {A : Type 0} (blockages all : List (Blockage A)) (blockage : Blockage A) (rects more : ℕ) → rects ≡ rect_count (map blockage_said blockages) → more ≡ length (blockage_said blockage).rects → all ≡ blockages ++ blockage ∷ [] → rects + more ≡ rect_count (map blockage_said all)
+pub more_counted : {A : Type 0} (blockages all : List (Blockage A)) (blockage : Blockage A) (rects more : ℕ) → rects ≡ rect_count (map blockage_said blockages)
+    → more ≡ length (blockage_said blockage).rects → all ≡ blockages ++ blockage ∷ [] → rects + more ≡ rect_count (map blockage_said all)
 more_counted blockages all blockage rects more counted so_many is =
     rw (counted, so_many, is, map_push blockage_said blockages blockage, rect_count_push (map blockage_said blockages) (blockage_said blockage)) refl

@@ -15,7 +15,8 @@ use Rattle.leg_design_floorplan.proofs.ReadComponents.{component_gives}
 use Rattle.leg_design_common.proofs.Sections.{section_below}
 
 -- a component that is read has a new name
-pub name_is_fresh : (library : LibraryModel) (names : List (List ℕ)) (parts : List Words) (component : Component) → component_in library names parts ≡ Some component → place_of component.name names ≡ None
+pub name_is_fresh : (library : LibraryModel) (names : List (List ℕ)) (parts : List Words) (component : Component)
+    → component_in library names parts ≡ Some component → place_of component.name names ≡ None
 name_is_fresh library names parts component is = ((component_gives library names parts).given component is).1
 
 pub entry_shortens : (library : LibraryModel) → Shortens (component_entry library)
@@ -23,9 +24,11 @@ unfolding component_entry
 entry_shortens library components words =
     below_ask (unless (nat_le ENTRY_LIMIT (length components))) (λ room.
     below_bind (omega arith) (statement_below words) (λ statement less.
-    below_ask (component_in library (component_names components) (clauses_of statement.0)) (λ component. below_some (components ++ component ∷ []) statement.1 less)))
+    below_ask (component_in library (component_names components) (clauses_of statement.0))
+    (λ component. below_some (components ++ component ∷ []) statement.1 less)))
 
-pub entry_shorter : (library : LibraryModel) (components more : List Component) (words rest : Words) → component_entry library components words ≡ Some (more, rest) → length rest < length words
+pub entry_shorter : (library : LibraryModel) (components more : List Component) (words rest : Words)
+    → component_entry library components words ≡ Some (more, rest) → length rest < length words
 entry_shorter library components more words rest said = (entry_shortens library components words).left more rest said
 
 pub components_below : (library : LibraryModel) (words : Words) → Below (length words) (components_at library words)

@@ -20,27 +20,33 @@ at_most (Some x) = refl
 
 module _ {X : Type 0} (test : X → Bool) where
   -- one more element, of another kind or of this one
-  pub passed_over : (xs found : List X) (i : ℕ) (x : X) → i < length xs → x ≡ get_or xs i x → test x ≡ false → filter test (take i xs) ≡ found → filter test (take (i + 1) xs) ≡ found
+  pub passed_over : (xs found : List X) (i : ℕ) (x : X) → i < length xs → x ≡ get_or xs i x → test x ≡ false → filter test (take i xs) ≡ found
+      → filter test (take (i + 1) xs) ≡ found
   passed_over xs found i x less is other before =
       let there : test (get_or xs i x) ≡ false = rw (← is) other in
       filter_more test xs i x less ∙ rw (there, before) (append-nil found)
 
-  pub found_first : (xs : List X) (i : ℕ) (x : X) → i < length xs → x ≡ get_or xs i x → test x ≡ true → filter test (take i xs) ≡ [] → filter test (take (i + 1) xs) ≡ x ∷ []
+  pub found_first : (xs : List X) (i : ℕ) (x : X) → i < length xs → x ≡ get_or xs i x → test x ≡ true → filter test (take i xs) ≡ []
+      → filter test (take (i + 1) xs) ≡ x ∷ []
   found_first xs i x less is this before =
       let there : test (get_or xs i x) ≡ true = rw (← is) this in
       filter_more test xs i x less ∙ rw (there, before, ← is) refl
 
   -- a second element of the kind
-  pub found_second : (xs : List X) (found : Option X) (i : ℕ) (x : X) → i < length xs → x ≡ get_or xs i x → test x ≡ true → is_some found ≡ true → filter test (take i xs) ≡ as_list found → at_most_one (filter test xs) ≡ None
+  pub found_second : (xs : List X) (found : Option X) (i : ℕ) (x : X) → i < length xs → x ≡ get_or xs i x → test x ≡ true → is_some found ≡ true
+      → filter test (take i xs) ≡ as_list found → at_most_one (filter test xs) ≡ None
   found_second xs found i x less is this some before =
-      let whole : xs ≡ take i xs ++ x ∷ drop (i + 1) xs = sym (take-append-drop i xs) ∙ ap (λ zs. take i xs ++ zs) (drop_more xs i x less ∙ ap (λ z. z ∷ drop (i + 1) xs) (sym is)) in
-      let those : filter test xs ≡ filter test (take i xs) ++ filter test (x ∷ drop (i + 1) xs) = ap (filter test) whole ∙ filter-append test (take i xs) (x ∷ drop (i + 1) xs) in
+      let whole : xs ≡ take i xs ++ x ∷ drop (i + 1) xs =
+      sym (take-append-drop i xs) ∙ ap (λ zs. take i xs ++ zs) (drop_more xs i x less ∙ ap (λ z. z ∷ drop (i + 1) xs) (sym is)) in
+      let those : filter test xs ≡ filter test (take i xs) ++ filter test (x ∷ drop (i + 1) xs) =
+      ap (filter test) whole ∙ filter-append test (take i xs) (x ∷ drop (i + 1) xs) in
       let here : filter test (x ∷ drop (i + 1) xs) ≡ x ∷ filter test (drop (i + 1) xs) = rw this refl in
       ap at_most_one (those ∙ ap (λ zs. filter test (take i xs) ++ zs) here)
       ∙ rw before (two_or_more found x (filter test (drop (i + 1) xs)) some)
 
   -- no element is left
-  pub looked_through : (xs : List X) (i : ℕ) (found : Option X) → length xs ≤ i → filter test (take i xs) ≡ as_list found → at_most_one (filter test xs) ≡ Some found
+  pub looked_through : (xs : List X) (i : ℕ) (found : Option X) → length xs ≤ i → filter test (take i xs) ≡ as_list found
+      → at_most_one (filter test xs) ≡ Some found
   looked_through xs i found past before =
       let all : filter test (take i xs) ≡ filter test xs = ap (filter test) (take_all i xs past) in
       ap at_most_one (sym all ∙ before) ∙ at_most found

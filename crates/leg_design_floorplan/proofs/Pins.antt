@@ -14,7 +14,8 @@ use Rattle.leg_design_floorplan.proofs.ReadPins.{pin_in_gives}
 use Rattle.leg_design_common.proofs.Sections.{section_below}
 
 -- a pin that is read has a new name
-pub name_is_fresh : (library : LibraryModel) (names : List (List ℕ)) (parts : List Words) (pin : PinModel) → pin_in library names parts ≡ Some pin → place_of pin.name names ≡ None
+pub name_is_fresh : (library : LibraryModel) (names : List (List ℕ)) (parts : List Words) (pin : PinModel) → pin_in library names parts ≡ Some pin
+    → place_of pin.name names ≡ None
 name_is_fresh library names parts pin is = ((pin_in_gives library names parts).given pin is).1
 
 pub entry_shortens : (library : LibraryModel) → Shortens (pin_entry library)
@@ -24,7 +25,8 @@ entry_shortens library pins words =
     below_bind (omega arith) (statement_below words) (λ statement less.
     below_ask (pin_in library (pin_names pins) (clauses_of statement.0)) (λ pin. below_some (pins ++ pin ∷ []) statement.1 less)))
 
-pub entry_shorter : (library : LibraryModel) (pins more : List PinModel) (words rest : Words) → pin_entry library pins words ≡ Some (more, rest) → length rest < length words
+pub entry_shorter : (library : LibraryModel) (pins more : List PinModel) (words rest : Words) → pin_entry library pins words ≡ Some (more, rest)
+    → length rest < length words
 entry_shorter library pins more words rest said = (entry_shortens library pins words).left more rest said
 
 pub pins_below : (library : LibraryModel) (words : Words) → Below (length words) (pins_at library words)

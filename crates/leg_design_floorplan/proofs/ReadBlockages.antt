@@ -6,12 +6,13 @@ use Rattle.std.proofs.lemmas.List.{length_push}
 use Rattle.std.proofs.lemmas.List.Elements.{All-push, All-nil}
 use Rattle.leg_lex.specs.Words.{Words, keyword_at, mark_at}
 use Rattle.leg_lex.specs.Until.{until}
+use Rattle.leg_lex.proofs.GivesAll.{until_gives}
 use Rattle.leg_geom.specs.Plane.{RectModel}
 use Rattle.leg_lib_records.specs.Records.{LibraryModel}
 use Rattle.leg_design_records.specs.declared.limits.TheConstants.{ENTRY_LIMIT, PART_LIMIT}
 use Rattle.leg_design_records.specs.Records.{BlockageModel, rect_count}
 use Rattle.leg_design_records.specs.WellFormedParts.{IsArea, IsLayerOfBlockage, IsBlockage, AreBlockages}
-use Rattle.leg_design_common.proofs.Gives.{Gives, gives_some, gives_bind, gives_skip, gives_choice, when_gives, until_gives, section_gives}
+use Rattle.leg_design_common.proofs.Gives.{Gives, gives_some, gives_bind, gives_skip, gives_choice, when_gives, section_gives}
 use Rattle.leg_design_common.proofs.ReadPlacement.{rect_gives}
 use Rattle.leg_grammar.specs.Def.Blockage.{blocked_layer_at, push_down, at_no_plus, one_rect, at_semicolon, rects_at, blockage_at, is_kept, is_room_for, blockage_entry, blockages_at}
 use Rattle.leg_design_floorplan.proofs.Blockages.{rect_count_push}
@@ -51,7 +52,8 @@ layer_of_kept : (library : LibraryModel) (layer : Option ℕ) → is_kept librar
 layer_of_kept library None kept = tt
 layer_of_kept library (Some layer) kept = kept
 
-with_blockage : (library : LibraryModel) (blockages : List BlockageModel) (blockage : BlockageModel) → AreBlockages library blockages → IsBlockage library blockage → is_room_for blockage blockages ≡ true → AreBlockages library (blockages ++ blockage ∷ [])
+with_blockage : (library : LibraryModel) (blockages : List BlockageModel) (blockage : BlockageModel) → AreBlockages library blockages
+    → IsBlockage library blockage → is_room_for blockage blockages ≡ true → AreBlockages library (blockages ++ blockage ∷ [])
 with_blockage library blockages blockage before holds room =
     let parts = and_parts (nat_lt (length blockages) ENTRY_LIMIT) (nat_le (rect_count blockages + length blockage.rects) PART_LIMIT) room in
     let few = parts.0 in
@@ -62,7 +64,8 @@ with_blockage library blockages blockage before holds room =
       few_rects = rw (rect_count_push blockages blockage) (grind (arith, nat_tests));
     }
 
-entry_gives : (library : LibraryModel) (blockages : List BlockageModel) (words : Words) → AreBlockages library blockages → Gives (λ said. AreBlockages library said.0) (blockage_entry library blockages words)
+entry_gives : (library : LibraryModel) (blockages : List BlockageModel) (words : Words) → AreBlockages library blockages
+    → Gives (λ said. AreBlockages library said.0) (blockage_entry library blockages words)
 unfolding blockage_entry
 entry_gives library blockages words before =
     gives_bind (blockage_gives library words) (λ blockage some.

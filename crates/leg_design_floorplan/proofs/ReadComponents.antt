@@ -9,6 +9,7 @@ use Rattle.leg_lex.specs.Words.{Words, is_keyword, is_name}
 use Rattle.leg_lex.specs.Statements.{at_most_one, clauses_of}
 use Rattle.leg_lex.specs.NameLookup.{place_of}
 use Rattle.leg_lex.proofs.NameLookup.{apart_push}
+use Rattle.leg_lex.proofs.GivesAll.{named_gives_within}
 use Rattle.leg_lib_records.specs.Records.{LibraryModel, MasterModel}
 use Rattle.leg_design_records.specs.declared.limits.TheConstants.{ENTRY_LIMIT}
 use Rattle.leg_design_records.specs.declared.records.Component.{Component}
@@ -18,7 +19,7 @@ use Rattle.leg_grammar.specs.Def.Clause.{is_clause}
 use Rattle.leg_grammar.specs.Def.Component.{is_placement, placement_in, placement_in_any, placement_of, new_name_at, master_at, component_head, component_in, component_entry, components_at}
 use Rattle.leg_design_records.specs.Records.{component_names}
 use Rattle.leg_design_records.specs.WellFormedParts.{IsPlaced, IsComponent, AreComponents}
-use Rattle.leg_design_common.proofs.Gives.{Gives, gives_none, gives_some, gives_bind, gives_skip, gives_if, unless_gives, none_from, named_gives_within, name_gives, section_gives}
+use Rattle.leg_design_common.proofs.Gives.{Gives, gives_none, gives_some, gives_bind, gives_skip, gives_if, unless_gives, none_from, name_gives, section_gives}
 use Rattle.leg_design_common.proofs.ReadPlacement.{placed_gives}
 
 placement_gives : (clause : Words) → Gives (λ said. IsPlaced said.0 said.1) (placement_in clause)
@@ -60,7 +61,8 @@ master_gives library words =
     gives_bind (named_gives_within (λ (m : MasterModel). m.name) name.0 library.masters) (λ number less.
     gives_some _ less))
 
-head_gives : (library : LibraryModel) (names : List (List ℕ)) (head : Words) → Gives (λ said. IsNewName names said.0 × (said.1 < length library.masters)) (component_head library names head)
+head_gives : (library : LibraryModel) (names : List (List ℕ)) (head : Words)
+    → Gives (λ said. IsNewName names said.0 × (said.1 < length library.masters)) (component_head library names head)
 unfolding component_head
 head_gives library names head =
     gives_skip _ (λ dash.
@@ -69,7 +71,8 @@ head_gives library names head =
     gives_skip _ (λ end.
     gives_some _ (new, less)))))
 
-pub component_gives : (library : LibraryModel) (names : List (List ℕ)) (parts : List Words) → Gives (λ component. IsComponent library component × (place_of component.name names ≡ None)) (component_in library names parts)
+pub component_gives : (library : LibraryModel) (names : List (List ℕ)) (parts : List Words)
+    → Gives (λ component. IsComponent library component × (place_of component.name names ≡ None)) (component_in library names parts)
 unfolding component_in
 component_gives library names [] = gives_none
 component_gives library names (head ∷ clauses) =
@@ -77,14 +80,17 @@ component_gives library names (head ∷ clauses) =
     gives_bind (placement_of_gives clauses) (λ placement placed.
     gives_some _ (record { name = holds.0.named; no_pin = holds.0.no_pin; master = holds.1; placed = placed }, holds.0.new)))
 
-with_component : (library : LibraryModel) (components : List Component) (component : Component) → AreComponents library components → nat_le ENTRY_LIMIT (length components) ≡ false → IsComponent library component → place_of component.name (component_names components) ≡ None → AreComponents library (components ++ component ∷ [])
+with_component : (library : LibraryModel) (components : List Component) (component : Component) → AreComponents library components
+    → nat_le ENTRY_LIMIT (length components) ≡ false → IsComponent library component → place_of component.name (component_names components) ≡ None
+    → AreComponents library (components ++ component ∷ [])
 with_component library components component before room holds new = record {
   each = All-push (IsComponent library) components component before.each holds;
   apart = rw (map_push (λ (c : Component). c.name) components component) (apart_push component.name (component_names components) new before.apart);
   few = rw (length_push components component) (grind (arith, nat_tests));
 }
 
-entry_gives : (library : LibraryModel) (components : List Component) (words : Words) → AreComponents library components → Gives (λ said. AreComponents library said.0) (component_entry library components words)
+entry_gives : (library : LibraryModel) (components : List Component) (words : Words) → AreComponents library components
+    → Gives (λ said. AreComponents library said.0) (component_entry library components words)
 unfolding component_entry
 entry_gives library components words before =
     gives_bind (unless_gives (nat_le ENTRY_LIMIT (length components))) (λ free room.

@@ -2,10 +2,11 @@
 use Rattle.std.proofs.Common.{List, [], ◌∷◌, All, arith}
 use Rattle.std.proofs.lemmas.List.Elements.{All-push, All-nil}
 use Rattle.leg_lex.specs.Words.{Words}
+use Rattle.leg_lex.proofs.GivesAll.{until_gives}
 use Rattle.leg_geom.specs.Plane.{PointModel}
 use Rattle.leg_grammar.specs.Def.Die.{one_spot, at_no_spot, go_round, die_of, die_at}
 use Rattle.leg_design_records.specs.WellFormedParts.{IsPosition, IsArea}
-use Rattle.leg_design_common.proofs.Gives.{Gives, gives_none, gives_some, gives_bind, gives_skip, gives_if, until_gives}
+use Rattle.leg_design_common.proofs.Gives.{Gives, gives_none, gives_some, gives_bind, gives_skip, gives_if}
 use Rattle.leg_design_common.proofs.ReadPlacement.{spot_gives, between_gives}
 
 one_spot_gives : (spots : List PointModel) (words : Words) → All IsPosition spots → Gives (λ said. All IsPosition said.0) (one_spot spots words)

@@ -8,6 +8,7 @@ use Rattle.leg_lex.specs.Words.{Words, is_at, keyword_at, mark_at, nothing_at, i
 use Rattle.leg_lex.specs.Statements.{statement_at, clauses_of}
 use Rattle.leg_lex.specs.NameLookup.{place_of}
 use Rattle.leg_lex.proofs.NameLookup.{apart_push}
+use Rattle.leg_lex.proofs.GivesAll.{over_gives}
 use Rattle.leg_lib_records.specs.Records.{LibraryModel}
 use Rattle.leg_design_records.specs.declared.limits.TheConstants.{ENTRY_LIMIT}
 use Rattle.leg_grammar.specs.Def.Guard.{when, unless}
@@ -18,7 +19,7 @@ use Rattle.leg_grammar.specs.Def.Port.{empty_port, past_rules, layer_rect}
 use Rattle.leg_grammar.specs.Def.Pin.{pin_head, pin_in, pin_entry, pins_at}
 use Rattle.leg_design_records.specs.Records.{PortModel, PinModel, pin_names}
 use Rattle.leg_design_records.specs.WellFormedParts.{IsKept, IsNameIfAny, IsPort, IsPin, ArePins}
-use Rattle.leg_design_common.proofs.Gives.{Gives, gives_none, gives_some, gives_bind, gives_skip, gives_if, unless_gives, none_from, name_gives, word_gives, over_gives, section_gives}
+use Rattle.leg_design_common.proofs.Gives.{Gives, gives_none, gives_some, gives_bind, gives_skip, gives_if, unless_gives, none_from, name_gives, word_gives, section_gives}
 use Rattle.leg_design_common.proofs.ReadPlacement.{rect_gives, placed_gives}
 use Rattle.leg_design_floorplan.proofs.ReadVias.{with_rect_metal}
 use Rattle.leg_design_records.specs.WellFormedParts.{IsArea, IsMetalShape}
@@ -146,7 +147,8 @@ module _ (library : LibraryModel) where
   no_pin_clauses_are : ArePinClauses no_pin_clauses
   no_pin_clauses_are = record { net_name = tt; direction = tt; usage = tt; done = All-nil (IsPort library); last = tt }
 
-  pub pin_in_gives : (names : List (List ℕ)) (parts : List Words) → Gives (λ pin. IsPin library pin × (place_of pin.name names ≡ None)) (pin_in library names parts)
+  pub pin_in_gives : (names : List (List ℕ)) (parts : List Words)
+      → Gives (λ pin. IsPin library pin × (place_of pin.name names ≡ None)) (pin_in library names parts)
   unfolding pin_in
   pin_in_gives names [] = gives_none
   pin_in_gives names (head ∷ clauses) =
@@ -154,7 +156,8 @@ module _ (library : LibraryModel) where
       gives_bind (over_gives ArePinClauses (pin_clause library) pin_clause_gives no_pin_clauses clauses no_pin_clauses_are) (λ parts are.
       gives_some _ (record { name = new.0; net_name = are.net_name; direction = are.direction; usage = are.usage; ports = all_are parts are }, new.1)))
 
-  with_pin : (pins : List PinModel) (pin : PinModel) → ArePins library pins → nat_le ENTRY_LIMIT (length pins) ≡ false → IsPin library pin → place_of pin.name (pin_names pins) ≡ None → ArePins library (pins ++ pin ∷ [])
+  with_pin : (pins : List PinModel) (pin : PinModel) → ArePins library pins → nat_le ENTRY_LIMIT (length pins) ≡ false → IsPin library pin
+      → place_of pin.name (pin_names pins) ≡ None → ArePins library (pins ++ pin ∷ [])
   with_pin pins pin before room holds new = record {
     each = All-push (IsPin library) pins pin before.each holds;
     apart = rw (map_push (λ (p : PinModel). p.name) pins pin) (apart_push pin.name (pin_names pins) new before.apart);

@@ -3,6 +3,7 @@ use Rattle.std.proofs.Common.{◌≡◌, ℤ, pos, ◌≤ℤ◌, ◌+ℤ◌, ◌
 use Rattle.std.specs.Ordering.{int_eq}
 use Rattle.std.proofs.lemmas.Int.{ints}
 use Rattle.std.proofs.lemmas.Bool.Decides.{nat_tests}
+use Rattle.leg_lemmas.proofs.Integers.{le_from_test}
 use Rattle.leg_lex.specs.Number.{IsNumber}
 use Rattle.leg_lex.specs.Words.{Words, keyword_at, name_at}
 use Rattle.leg_lex.specs.Statements.{statement_at, clauses_of}
@@ -18,9 +19,6 @@ use Rattle.leg_design_common.proofs.ReadPlacement.{whole_gives}
 
 pub within_is : (z : ℤ) → is_within z ≡ true → IsNumber z
 within_is z within = grind (arith, nat_tests)
-
-pub le_is : (a b : ℤ) → int_le a b ≡ true → a ≤ℤ b
-le_is a b less = grind (arith, ints)
 
 site_gives : (library : LibraryModel) (words : Words) → Gives (λ said. slice_get library.sites said.0.0 ≡ Some said.0.1) (site_named_at library words)
 unfolding site_named_at
@@ -42,7 +40,7 @@ sites_give width (word ∷ words) =
     gives_bind (when_gives (int_le (pos 1) count.0)) (λ some least.
     gives_skip (when (int_eq lines.0 (pos 1))) (λ one.
     gives_skip (step_in width count.0 lines.1) (λ step.
-    gives_some count.0 (le_is (pos 1) count.0 least, number))))))))
+    gives_some count.0 (le_from_test (pos 1) count.0 least, number))))))))
 
 row_in_gives : (library : LibraryModel) (head : Words) → Gives (IsRow library) (row_in library head)
 unfolding row_in

@@ -1,16 +1,18 @@
 -- Tracks that are read are for layers of the library, and lie within the limit of numbers.
 use Rattle.std.proofs.Common.{ℕ, ◌<◌, pos, ◌+ℤ◌, ◌-ℤ◌, ◌*ℤ◌, int_le, List, [], ◌∷◌, length, All, codes}
 use Rattle.std.proofs.lemmas.List.Elements.{All-push, All-nil}
+use Rattle.leg_lemmas.proofs.Integers.{le_from_test}
 use Rattle.leg_lex.specs.Words.{Words, keyword_at, name_at}
 use Rattle.leg_lex.specs.Statements.{statement_at}
+use Rattle.leg_lex.proofs.GivesAll.{until_gives, named_gives_within}
 use Rattle.leg_lib_records.specs.declared.records.Layer.{Layer}
 use Rattle.leg_lib_records.specs.Records.{LibraryModel}
 use Rattle.leg_grammar.specs.Def.Guard.{is_over, is_within}
 use Rattle.leg_grammar.specs.Def.Track.{axis_at, one_layer, layers_in, track_in, track_at}
 use Rattle.leg_design_records.specs.WellFormedParts.{IsTrack}
-use Rattle.leg_design_common.proofs.Gives.{Gives, gives_some, gives_bind, gives_skip, named_gives_within, when_gives, until_gives}
+use Rattle.leg_design_common.proofs.Gives.{Gives, gives_some, gives_bind, gives_skip, when_gives}
 use Rattle.leg_design_common.proofs.ReadPlacement.{whole_gives}
-use Rattle.leg_design_floorplan.proofs.ReadRows.{within_is, le_is}
+use Rattle.leg_design_floorplan.proofs.ReadRows.{within_is}
 
 module _ (library : LibraryModel) where
   -- the numbers are those of layers
@@ -49,9 +51,9 @@ module _ (library : LibraryModel) where
       gives_bind (layers_give step.1) (λ layers each.
       gives_some _ (record {
         start = from;
-        some = le_is (pos 1) count.0 least;
+        some = le_from_test (pos 1) count.0 least;
         count = number;
-        apart = le_is (pos 1) step.0 rises;
+        apart = le_from_test (pos 1) step.0 rises;
         step = pitch;
         end = within_is (start.0 +ℤ (count.0 -ℤ pos 1) *ℤ step.0) within;
         layers = each;

@@ -7,6 +7,7 @@ use Rattle.leg_lex.specs.Words.{Words, is_at, keyword_at, mark_at, nothing_at, i
 use Rattle.leg_lex.specs.Statements.{statement_at, clauses_of}
 use Rattle.leg_lex.specs.NameLookup.{place_of}
 use Rattle.leg_lex.proofs.NameLookup.{apart_push}
+use Rattle.leg_lex.proofs.GivesAll.{over_gives}
 use Rattle.leg_geom.specs.Plane.{RectModel}
 use Rattle.leg_lib_records.specs.declared.records.Shape.{Shape}
 use Rattle.leg_lib_records.specs.Records.{LibraryModel, ViaModel, via_names}
@@ -17,7 +18,7 @@ use Rattle.leg_design_records.specs.Layers.{has_metal}
 use Rattle.leg_grammar.specs.Def.Via.{via_rect, is_other_via, via_clause, via_head, via_in, via_entry, vias_at}
 use Rattle.leg_design_records.specs.Records.{design_via_names}
 use Rattle.leg_design_records.specs.WellFormedParts.{IsArea, IsMetalShape, IsDesignVia, AreVias}
-use Rattle.leg_design_common.proofs.Gives.{Gives, gives_none, gives_some, gives_bind, gives_skip, gives_if, unless_gives, none_from, name_gives, over_gives, section_gives}
+use Rattle.leg_design_common.proofs.Gives.{Gives, gives_none, gives_some, gives_bind, gives_skip, gives_if, unless_gives, none_from, name_gives, section_gives}
 use Rattle.leg_design_common.proofs.ReadPlacement.{rect_gives}
 
 module _ (library : LibraryModel) where
@@ -67,7 +68,8 @@ module _ (library : LibraryModel) where
         here = none_from (place_of name.0 (design_via_names vias)) parts.1;
       })))))
 
-  pub via_in_gives : (vias : List ViaModel) (parts : List Words) → Gives (λ via. IsDesignVia library via × (place_of via.name (design_via_names vias) ≡ None)) (via_in library vias parts)
+  pub via_in_gives : (vias : List ViaModel) (parts : List Words)
+      → Gives (λ via. IsDesignVia library via × (place_of via.name (design_via_names vias) ≡ None)) (via_in library vias parts)
   unfolding via_in
   via_in_gives vias [] = gives_none
   via_in_gives vias (head ∷ clauses) =
@@ -75,7 +77,8 @@ module _ (library : LibraryModel) where
       gives_bind (over_gives AreMetal (via_clause library) via_clause_gives [] clauses (All-nil (IsMetalShape library))) (λ shapes each.
       gives_some _ (record { name = new.named; new = new.new; default_via = refl; good = refl; shapes = each }, new.here)))
 
-  with_via : (vias : List ViaModel) (via : ViaModel) → AreVias library vias → IsDesignVia library via → place_of via.name (design_via_names vias) ≡ None → AreVias library (vias ++ via ∷ [])
+  with_via : (vias : List ViaModel) (via : ViaModel) → AreVias library vias → IsDesignVia library via → place_of via.name (design_via_names vias) ≡ None
+      → AreVias library (vias ++ via ∷ [])
   with_via vias via before holds new = record {
     each = All-push (IsDesignVia library) vias via before.each holds;
     apart = rw (map_push (λ (v : ViaModel). v.name) vias via) (apart_push via.name (design_via_names vias) new before.apart);

@@ -18,7 +18,8 @@ one_layer_shortens library numbers words =
     below_ask (place_of name.0 (layer_names library)) (λ number.
     below_some (numbers ++ number ∷ []) name.1 less))
 
-pub one_layer_shorter : (library : LibraryModel) (numbers more : List ℕ) (words rest : Words) → one_layer library numbers words ≡ Some (more, rest) → length rest < length words
+pub one_layer_shorter : (library : LibraryModel) (numbers more : List ℕ) (words rest : Words) → one_layer library numbers words ≡ Some (more, rest)
+    → length rest < length words
 one_layer_shorter library numbers more words rest said = (one_layer_shortens library numbers words).left more rest said
 
 -- MASK isn't LAYER.

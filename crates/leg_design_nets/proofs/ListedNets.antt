@@ -48,7 +48,8 @@ module _ (nets : List NetModel) (ts : List Terminal) where
       rw last (get_or-append_seam (lists_of nets) ts [] [])
 
 -- which entry lists the terminal
-module _ (number : Terminal → Option ℕ) (lists : List (List Terminal)) (index : IsNameIndex number lists) (nets : List NetModel) (at : (j : ℕ) (d : NetModel) → j < length nets → get_or lists j [] ≡ (get_or nets j d).terminals) (t : Terminal) where
+module _ (number : Terminal → Option ℕ) (lists : List (List Terminal)) (index : IsNameIndex number lists) (nets : List NetModel)
+    (at : (j : ℕ) (d : NetModel) → j < length nets → get_or lists j [] ≡ (get_or nets j d).terminals) (t : Terminal) where
   found_by : (k : ℕ) → number t ≡ Some k → is_listed t nets ≡ nat_lt k (length nets)
   found_by k found = by (nat_lt k (length nets)) refl where
     by : (before : Bool) → nat_lt k (length nets) ≡ before → is_listed t nets ≡ before
@@ -66,7 +67,8 @@ module _ (number : Terminal → Option ℕ) (lists : List (List Terminal)) (inde
       list_any_none (λ net. is_among t net.terminals) nets (λ j d less.
       rw (← at j d less) (none_at number lists index t j none))
 
-  other_by : (name : List ℕ) (k : ℕ) (net : NetModel) → number t ≡ Some k → slice_get nets k ≡ Some net → is_of_other_net name t nets ≡ not (bytes_eq net.name name)
+  other_by : (name : List ℕ) (k : ℕ) (net : NetModel) → number t ≡ Some k → slice_get nets k ≡ Some net
+      → is_of_other_net name t nets ≡ not (bytes_eq net.name name)
   other_by name k net found there = by (bytes_eq net.name name) refl where
     less : k < length nets
     less = slice_get_within nets k net there
@@ -78,7 +80,8 @@ module _ (number : Terminal → Option ℕ) (lists : List (List Terminal)) (inde
     by true same =
         list_any_none (λ x. not (bytes_eq x.name name) && is_among t x.terminals) nets (λ j d below.
         false_from_ne_true (not (bytes_eq (get_or nets j d).name name) && is_among t (get_or nets j d).terminals) (λ both.
-        let has : is_among t (get_or nets j d).terminals ≡ true = second (not (bytes_eq (get_or nets j d).name name)) (is_among t (get_or nets j d).terminals) both in
+        let has : is_among t (get_or nets j d).terminals ≡ true =
+        second (not (bytes_eq (get_or nets j d).name name)) (is_among t (get_or nets j d).terminals) both in
         let place : j ≡ k = only_at number lists index t k j found (rw (at j d below) has) in
         false≢true (sym (rw (place, it d, same) refl) ∙ both))) where
           second : (a b : Bool) → (a && b) ≡ true → b ≡ true
@@ -107,7 +110,8 @@ module _ (number : Terminal → Option ℕ) (nets : List NetModel) (index : IsNa
         let beyond : get_or (lists_of nets) k [] ≡ [] = list_beyond (lists_of nets) k (grind (arith, nat_tests, past, lists_length nets)) in
         absurd (false≢true (rw beyond at ((index t k).0 found)))
 
-  pub other_found : (name : List ℕ) (k : ℕ) (net : NetModel) → number t ≡ Some k → slice_get nets k ≡ Some net → is_of_other_net name t nets ≡ not (bytes_eq net.name name)
+  pub other_found : (name : List ℕ) (k : ℕ) (net : NetModel) → number t ≡ Some k → slice_get nets k ≡ Some net
+      → is_of_other_net name t nets ≡ not (bytes_eq net.name name)
   other_found = other_by number (lists_of nets) index nets (list_at nets) t
 
   pub no_other : (name : List ℕ) → number t ≡ None → is_of_other_net name t nets ≡ false
@@ -118,7 +122,8 @@ module _ (number : Terminal → Option ℕ) (nets : List NetModel) (index : IsNa
     by : (o : Option ℕ) → number t ≡ o → is_listed t nets ≡ is_some o
     by None none = none_by number (lists_of nets) index nets (list_at nets) t none
     by (Some k) found =
-        found_by number (lists_of nets) index nets (list_at nets) t k found ∙ (let less : k < length nets = within_nets k found in grind (arith, nat_tests, less))
+        found_by number (lists_of nets) index nets (list_at nets) t k found ∙ (let less : k < length nets = within_nets k found in
+        grind (arith, nat_tests, less))
 
   pub not_listed : is_listed t nets ≡ false → number t ≡ None
   not_listed not = by (number t) refl where
@@ -167,7 +172,8 @@ of_new_name name t (net ∷ nets) new =
     let other : bytes_eq net.name name ≡ false = same_other_way net.name name ∙ parts.0 in
     rw (other, of_new_name name t nets parts.1) refl
 
-pub other_split : (name : List ℕ) (t : Terminal) (nets others : List NetModel) → place_of name (net_names nets) ≡ None → is_of_other_net name t (nets ++ others) ≡ (is_listed t nets || is_of_other_net name t others)
+pub other_split : (name : List ℕ) (t : Terminal) (nets others : List NetModel) → place_of name (net_names nets) ≡ None
+    → is_of_other_net name t (nets ++ others) ≡ (is_listed t nets || is_of_other_net name t others)
 other_split name t nets others new =
     list_any-append (λ net. not (bytes_eq net.name name) && is_among t net.terminals) nets others
     ∙ ap (λ b. b || is_of_other_net name t others) (of_new_name name t nets new)
@@ -182,7 +188,8 @@ wires_more [] net = omega arith
 wires_more (first ∷ nets) net = let rest = wires_more nets net in omega (arith, rest)
 
 -- the entry of a number that is told is there
-pub surely_there : (number : Terminal → Option ℕ) (nets : List NetModel) → IsNameIndex number (lists_of nets) → (t : Terminal) (k : ℕ) → number t ≡ Some k → slice_get nets k ≡ None → ⊥
+pub surely_there : (number : Terminal → Option ℕ) (nets : List NetModel) → IsNameIndex number (lists_of nets) → (t : Terminal) (k : ℕ) → number t ≡ Some k
+    → slice_get nets k ≡ None → ⊥
 surely_there number nets index t k found none =
     let less : k < length nets = within_nets number nets index t k found in
     let e : ⊥ = cc (none, slice_get-get_or nets k blank less) in e
@@ -194,13 +201,18 @@ append_other [] a b (suc j) other = refl
 append_other (x ∷ xs) a b zero other = refl
 append_other (x ∷ xs) a b (suc j) other = append_other xs a b j (λ e. other (ap suc e))
 
-begun_more : (before after : Terminal → Option ℕ) (nets : List NetModel) (ts : List Terminal) (t : Terminal) → IsNameIndex before (lists_of nets ++ ts ∷ []) → before t ≡ None → ((q : Terminal) → after q ≡ cond (is_same_terminal t q) (Some (length nets)) (before q)) → IsNameIndex after (lists_of nets ++ (ts ++ t ∷ []) ∷ [])
+begun_more : (before after : Terminal → Option ℕ) (nets : List NetModel) (ts : List Terminal) (t : Terminal) → IsNameIndex before (lists_of nets ++ ts ∷ [])
+    → before t ≡ None → ((q : Terminal) → after q ≡ cond (is_same_terminal t q) (Some (length nets)) (before q))
+    → IsNameIndex after (lists_of nets ++ (ts ++ t ∷ []) ∷ [])
 begun_more before after nets ts t index none updates =
     index_more before after (lists_of nets ++ ts ∷ []) (lists_of nets ++ (ts ++ t ∷ []) ∷ []) (length nets) t index none updates
     (begun_last nets (ts ++ t ∷ []) ∙ ap (λ xs. xs ++ t ∷ []) (sym (begun_last nets ts)))
     (λ j other. append_other (lists_of nets) (ts ++ t ∷ []) ts j (λ e. other (e ∙ lists_length nets)))
 
-pub index_begun : (before reserved after : Terminal → Option ℕ) (nets : List NetModel) (ts more : List Terminal) (t : Terminal) (k : ℕ) → IsNameIndex before (lists_of nets ++ ts ∷ []) → ((q : Terminal) → reserved q ≡ before q) → ((q : Terminal) → after q ≡ cond (is_same_terminal t q) (Some k) (reserved q)) → k ≡ length nets → more ≡ ts ++ t ∷ [] → is_listed t nets ≡ false → is_among t ts ≡ false → IsNameIndex after (lists_of nets ++ more ∷ [])
+pub index_begun : (before reserved after : Terminal → Option ℕ) (nets : List NetModel) (ts more : List Terminal) (t : Terminal) (k : ℕ)
+    → IsNameIndex before (lists_of nets ++ ts ∷ []) → ((q : Terminal) → reserved q ≡ before q)
+    → ((q : Terminal) → after q ≡ cond (is_same_terminal t q) (Some k) (reserved q)) → k ≡ length nets → more ≡ ts ++ t ∷ [] → is_listed t nets ≡ false
+    → is_among t ts ≡ false → IsNameIndex after (lists_of nets ++ more ∷ [])
 index_begun before reserved after nets ts more t k index same updates last pushed not_before not_here =
     rw pushed (begun_more before after nets ts t index (nowhere before nets ts index t not_before not_here)
     (λ q. updates q ∙ rw (last, same q) refl))
@@ -220,7 +232,8 @@ pub names_more : (nets : List NetModel) (net : NetModel) → net_names (nets ++ 
 names_more [] net = refl
 names_more (first ∷ nets) net = ap (λ names. first.name ∷ names) (names_more nets net)
 
-pub index_closed : (number : Terminal → Option ℕ) (nets : List NetModel) (net : NetModel) → IsNameIndex number (lists_of nets ++ net.terminals ∷ []) → IsNameIndex number (lists_of (nets ++ net ∷ []) ++ [] ∷ [])
+pub index_closed : (number : Terminal → Option ℕ) (nets : List NetModel) (net : NetModel) → IsNameIndex number (lists_of nets ++ net.terminals ∷ [])
+    → IsNameIndex number (lists_of (nets ++ net ∷ []) ++ [] ∷ [])
 index_closed number nets net index =
     index_same number (lists_of nets ++ net.terminals ∷ []) (lists_of (nets ++ net ∷ []) ++ [] ∷ []) index
     (λ j. append_nothing (lists_of (nets ++ net ∷ [])) j ∙ ap (λ lists. get_or lists j []) (lists_more nets net))
@@ -231,7 +244,11 @@ index_finished number nets index =
     index_same number (lists_of nets ++ [] ∷ []) (lists_of nets) index (λ j. sym (append_nothing (lists_of nets) j))
 
 -- one more whole entry
-pub kept_closed : (nets after : List NetModel) (ts none : List Terminal) (net : NetModel) (names more : List (List ℕ)) (number : Terminal → Option ℕ) (terminals wires a b : ℕ) → IsIndexOf nets (lists_of nets ++ ts ∷ []) names number terminals wires → after ≡ nets ++ net ∷ [] → none ≡ [] → more ≡ names ++ net.name ∷ [] → ts ≡ net.terminals → a ≡ length net.terminals → b ≡ length net.wires → IsIndexOf after (lists_of after ++ none ∷ []) more number (terminals + a) (wires + b)
+pub kept_closed : (nets after : List NetModel) (ts none : List Terminal) (net : NetModel) (names more : List (List ℕ)) (number : Terminal → Option ℕ)
+    (terminals wires a b : ℕ)
+    → IsIndexOf nets (lists_of nets ++ ts ∷ []) names number terminals wires → after ≡ nets ++ net ∷ [] → none ≡ [] → more ≡ names ++ net.name ∷ []
+    → ts ≡ net.terminals → a ≡ length net.terminals → b ≡ length net.wires
+    → IsIndexOf after (lists_of after ++ none ∷ []) more number (terminals + a) (wires + b)
 kept_closed nets after ts none net names more number terminals wires a b kept pushed nothing named the_same so_many so_many_wires =
     rw (pushed, nothing) (record {
       named = named ∙ ap (λ all. all ++ net.name ∷ []) kept.named ∙ sym (names_more nets net);
@@ -240,7 +257,8 @@ kept_closed nets after ts none net names more number terminals wires a b kept pu
       wired = rw (so_many_wires, kept.wired) (sym (wires_more nets net));
     })
 
-pub kept_finished : (nets : List NetModel) (ts : List Terminal) (names : List (List ℕ)) (number : Terminal → Option ℕ) (terminals wires : ℕ) → IsIndexOf nets (lists_of nets ++ ts ∷ []) names number terminals wires → ts ≡ [] → IsIndexOf nets (lists_of nets) names number terminals wires
+pub kept_finished : (nets : List NetModel) (ts : List Terminal) (names : List (List ℕ)) (number : Terminal → Option ℕ) (terminals wires : ℕ)
+    → IsIndexOf nets (lists_of nets ++ ts ∷ []) names number terminals wires → ts ≡ [] → IsIndexOf nets (lists_of nets) names number terminals wires
 kept_finished nets ts names number terminals wires kept nothing = record {
   named = kept.named;
   indexed = index_finished number nets (rw nothing at kept.indexed);

@@ -14,7 +14,8 @@ use Rattle.leg_design_nets.proofs.TerminalLists.{index_more, index_by}
 use Rattle.leg_design_records.proofs.Blank.{blank}
 use Rattle.leg_design_nets.proofs.ListedNets.{not_listed}
 
-pub pin_added : (before after : NetLists) (pins : List PinModel) (i : ℕ) (x : PinModel) → i < length pins → x ≡ get_or pins i x → after ≡ with_lone_pin before i x → with_lone_pins before i (drop i pins) ≡ with_lone_pins after (i + 1) (drop (i + 1) pins)
+pub pin_added : (before after : NetLists) (pins : List PinModel) (i : ℕ) (x : PinModel) → i < length pins → x ≡ get_or pins i x
+    → after ≡ with_lone_pin before i x → with_lone_pins before i (drop i pins) ≡ with_lone_pins after (i + 1) (drop (i + 1) pins)
 unfolding with_lone_pins
 pin_added before after pins i x less is added = rw (at_front pins i x less is, added, add-one i) refl
 
@@ -42,14 +43,16 @@ list_here (first ∷ nets) zero net there =
     ap (λ (x : NetModel). x.terminals) same
 list_here (first ∷ nets) (suc k) net there = list_here nets k net there
 
-set_names : (nets : List NetModel) (k : ℕ) (net after : NetModel) → slice_get nets k ≡ Some net → after.name ≡ net.name → net_names (slice_set nets k after) ≡ net_names nets
+set_names : (nets : List NetModel) (k : ℕ) (net after : NetModel) → slice_get nets k ≡ Some net → after.name ≡ net.name
+    → net_names (slice_set nets k after) ≡ net_names nets
 set_names [] k net after there same = refl
 set_names (first ∷ nets) zero net after there same =
     let is : first ≡ net = cc in
     ap (λ name. name ∷ net_names nets) (same ∙ ap (λ (x : NetModel). x.name) (sym is))
 set_names (first ∷ nets) (suc k) net after there same = ap (λ names. first.name ∷ names) (set_names nets k net after there same)
 
-set_terminals : (nets : List NetModel) (k : ℕ) (net after : NetModel) → slice_get nets k ≡ Some net → length after.terminals ≡ length net.terminals + 1 → terminal_count (slice_set nets k after) ≡ terminal_count nets + 1
+set_terminals : (nets : List NetModel) (k : ℕ) (net after : NetModel) → slice_get nets k ≡ Some net → length after.terminals ≡ length net.terminals + 1
+    → terminal_count (slice_set nets k after) ≡ terminal_count nets + 1
 set_terminals [] k net after there more = absurd (let e : ⊥ = cc in e)
 set_terminals (first ∷ nets) zero net after there more =
     let is : first ≡ net = cc in
@@ -59,7 +62,8 @@ set_terminals (first ∷ nets) (suc k) net after there more =
     let rest = set_terminals nets k net after there more in
     omega (arith, rest)
 
-set_wires : (nets : List NetModel) (k : ℕ) (net after : NetModel) → slice_get nets k ≡ Some net → after.wires ≡ net.wires → wire_count (slice_set nets k after) ≡ wire_count nets
+set_wires : (nets : List NetModel) (k : ℕ) (net after : NetModel) → slice_get nets k ≡ Some net → after.wires ≡ net.wires
+    → wire_count (slice_set nets k after) ≡ wire_count nets
 set_wires [] k net after there same = refl
 set_wires (first ∷ nets) zero net after there same =
     let is : first ≡ net = cc in
@@ -73,7 +77,11 @@ get_within (first ∷ nets) zero net there = omega arith
 get_within (first ∷ nets) (suc k) net there = let rest = get_within nets k net there in omega (arith, rest)
 
 -- the entry k lists one more terminal
-pub kept_with : (nets after : List NetModel) (k : ℕ) (net : NetModel) (t : Terminal) (names : List (List ℕ)) (number reserved last : Terminal → Option ℕ) (terminals wires : ℕ) → IsIndexOf nets (lists_of nets) names number terminals wires → slice_get nets k ≡ Some net → after ≡ slice_set nets k (record net { terminals = net.terminals ++ t ∷ [] }) → is_listed t nets ≡ false → ((q : Terminal) → reserved q ≡ number q) → ((q : Terminal) → last q ≡ cond (is_same_terminal t q) (Some k) (reserved q)) → IsIndexOf after (lists_of after) names last (terminals + 1) wires
+pub kept_with : (nets after : List NetModel) (k : ℕ) (net : NetModel) (t : Terminal) (names : List (List ℕ)) (number reserved last : Terminal → Option ℕ)
+    (terminals wires : ℕ)
+    → IsIndexOf nets (lists_of nets) names number terminals wires → slice_get nets k ≡ Some net
+    → after ≡ slice_set nets k (record net { terminals = net.terminals ++ t ∷ [] }) → is_listed t nets ≡ false → ((q : Terminal) → reserved q ≡ number q)
+    → ((q : Terminal) → last q ≡ cond (is_same_terminal t q) (Some k) (reserved q)) → IsIndexOf after (lists_of after) names last (terminals + 1) wires
 kept_with nets after k net t names number reserved last terminals wires kept there put not same updates =
     let more : NetModel = record net { terminals = net.terminals ++ t ∷ [] } in
     rw put (record {
@@ -87,7 +95,9 @@ kept_with nets after k net t names number reserved last terminals wires kept the
       wired = kept.wired ∙ sym (set_wires nets k net more there refl);
     })
 
-pub kept_reserved : (nets : List NetModel) (names : List (List ℕ)) (number reserved : Terminal → Option ℕ) (terminals wires : ℕ) → IsIndexOf nets (lists_of nets) names number terminals wires → ((q : Terminal) → reserved q ≡ number q) → IsIndexOf nets (lists_of nets) names reserved terminals wires
+pub kept_reserved : (nets : List NetModel) (names : List (List ℕ)) (number reserved : Terminal → Option ℕ) (terminals wires : ℕ)
+    → IsIndexOf nets (lists_of nets) names number terminals wires → ((q : Terminal) → reserved q ≡ number q)
+    → IsIndexOf nets (lists_of nets) names reserved terminals wires
 kept_reserved nets names number reserved terminals wires kept same = record {
   named = kept.named;
   indexed = index_by number reserved (lists_of nets) kept.indexed same;
@@ -100,7 +110,8 @@ set_length [] k net = refl
 set_length (first ∷ nets) zero net = refl
 set_length (first ∷ nets) (suc k) net = ap suc (set_length nets k net)
 
-with_is : (nets : List NetModel) (k : ℕ) (net : NetModel) (t : Terminal) → slice_get nets k ≡ Some net → with_terminal t k nets ≡ slice_set nets k (record net { terminals = net.terminals ++ t ∷ [] })
+with_is : (nets : List NetModel) (k : ℕ) (net : NetModel) (t : Terminal) → slice_get nets k ≡ Some net
+    → with_terminal t k nets ≡ slice_set nets k (record net { terminals = net.terminals ++ t ∷ [] })
 with_is nets k net t there = rw there refl
 
 -- a whole slice is written back
@@ -108,15 +119,23 @@ pub written_back : (nets after : List NetModel) (n : ℕ) → n ≡ length nets 
 written_back nets after n whole size =
     rw (drop_all (length after) nets (omega (arith, size)), append-nil after) (take_all n after (omega (arith, whole, size)))
 
-pub kept_listed : (nets after : List NetModel) (n k : ℕ) (t : Terminal) (names : List (List ℕ)) (number reserved last : Terminal → Option ℕ) (terminals more wires : ℕ) → IsIndexOf nets (lists_of nets) names number terminals wires → n ≡ length nets → k < length nets → after ≡ with_terminal t k nets → is_listed t nets ≡ false → ((q : Terminal) → reserved q ≡ number q) → ((q : Terminal) → last q ≡ cond (is_same_terminal t q) (Some k) (reserved q)) → more ≡ terminals + 1 → IsIndexOf (take n (after ++ drop (length after) nets)) (lists_of (take n (after ++ drop (length after) nets))) names last more wires
+pub kept_listed : (nets after : List NetModel) (n k : ℕ) (t : Terminal) (names : List (List ℕ)) (number reserved last : Terminal → Option ℕ)
+    (terminals more wires : ℕ)
+    → IsIndexOf nets (lists_of nets) names number terminals wires → n ≡ length nets → k < length nets → after ≡ with_terminal t k nets
+    → is_listed t nets ≡ false → ((q : Terminal) → reserved q ≡ number q) → ((q : Terminal) → last q ≡ cond (is_same_terminal t q) (Some k) (reserved q))
+    → more ≡ terminals + 1
+    → IsIndexOf (take n (after ++ drop (length after) nets)) (lists_of (take n (after ++ drop (length after) nets))) names last more wires
 kept_listed nets after n k t names number reserved last terminals more wires kept whole less put not same updates one =
     let net : NetModel = get_or nets k blank in
     let there : slice_get nets k ≡ Some net = slice_get-get_or nets k blank less in
     let is : after ≡ slice_set nets k (record net { terminals = net.terminals ++ t ∷ [] }) = put ∙ with_is nets k net t there in
-    let size : length after ≡ length nets = ap (λ (xs : List NetModel). length xs) is ∙ set_length nets k (record net { terminals = net.terminals ++ t ∷ [] }) in
+    let size : length after ≡ length nets =
+    ap (λ (xs : List NetModel). length xs) is ∙ set_length nets k (record net { terminals = net.terminals ++ t ∷ [] }) in
     rw (written_back nets after n whole size, one) (kept_with nets after k net t names number reserved last terminals wires kept there is not same updates)
 
-pub kept_unlisted : (nets after : List NetModel) (n : ℕ) (names : List (List ℕ)) (number reserved : Terminal → Option ℕ) (terminals wires : ℕ) → IsIndexOf nets (lists_of nets) names number terminals wires → n ≡ length nets → after ≡ nets → ((q : Terminal) → reserved q ≡ number q) → IsIndexOf (take n (after ++ drop (length after) nets)) (lists_of (take n (after ++ drop (length after) nets))) names reserved terminals wires
+pub kept_unlisted : (nets after : List NetModel) (n : ℕ) (names : List (List ℕ)) (number reserved : Terminal → Option ℕ) (terminals wires : ℕ)
+    → IsIndexOf nets (lists_of nets) names number terminals wires → n ≡ length nets → after ≡ nets → ((q : Terminal) → reserved q ≡ number q)
+    → IsIndexOf (take n (after ++ drop (length after) nets)) (lists_of (take n (after ++ drop (length after) nets))) names reserved terminals wires
 kept_unlisted nets after n names number reserved terminals wires kept whole is same =
     rw (written_back nets after n whole (ap (λ (xs : List NetModel). length xs) is), is) (kept_reserved nets names number reserved terminals wires kept same)
 
@@ -165,7 +184,8 @@ one_pin lists p pin =
     (record { least = omega arith; most = omega arith }) (one_named lists p pin.net_name)
 
 -- A pin is one terminal more at most.
-pub few_more : (before after : NetLists) (i : ℕ) (limit : ℕ) (pin : PinModel) → after ≡ with_lone_pin before i pin → all_count before ≤ limit + i → all_count after ≤ limit + (i + 1)
+pub few_more : (before after : NetLists) (i : ℕ) (limit : ℕ) (pin : PinModel) → after ≡ with_lone_pin before i pin → all_count before ≤ limit + i
+    → all_count after ≤ limit + (i + 1)
 few_more before after i limit pin is few =
     let most = (one_pin before i pin).most in
     rw is (omega (arith, most, few))

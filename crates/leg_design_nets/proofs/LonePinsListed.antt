@@ -6,13 +6,13 @@ use Rattle.std.proofs.lemmas.List.Elements.{Contains-append_left, Contains-appen
 use Rattle.std.proofs.lemmas.Option.{slice_get_within, same_Some}
 use Rattle.leg_lex.specs.NameLookup.{place_of}
 use Rattle.leg_lex.proofs.NameLookup.{none_parts}
+use Rattle.leg_lex.proofs.GivesAll.{named_gives_within}
 use Rattle.leg_design_records.specs.declared.records.Terminal.{Terminal}
 use Rattle.leg_design_records.specs.declared.records.Terminal.TheVariants.{Pin}
 use Rattle.leg_grammar.specs.Def.Namespace.{KnownModel}
 use Rattle.leg_design_records.specs.Records.{PinModel, NetModel, net_names}
 use Rattle.leg_grammar.specs.Def.LonePins.{NetLists, is_listed, to_entry, to_named, with_lone_pin, with_lone_pins}
 use Rattle.leg_design_records.specs.WellFormedNets.{IsInSomeNet}
-use Rattle.leg_design_common.proofs.Gives.{named_gives_within}
 use Rattle.leg_design_nets.proofs.ReadListed.{Lists, listed, not_listed}
 use Rattle.leg_design_nets.proofs.ReadLonePins.{both, HasEntries, AreGrown, to_nets, to_special}
 
@@ -35,7 +35,8 @@ in_some nets p (Some name) found = λ named. (found.net, found.there, found.list
 
 module _ (known : KnownModel) where
   -- what is in some net stays in one
-  still_in_some : (lists next : NetLists) (p : ℕ) (name : Option (List ℕ)) → AreGrown known lists next → IsInSomeNet (both lists) p name → IsInSomeNet (both next) p name
+  still_in_some : (lists next : NetLists) (p : ℕ) (name : Option (List ℕ)) → AreGrown known lists next → IsInSomeNet (both lists) p name
+      → IsInSomeNet (both next) p name
   still_in_some lists next p None grown before = tt
   still_in_some lists next p (Some name) grown before = λ named.
       let old = before (rw grown.names at named) in
@@ -51,13 +52,15 @@ module _ (known : KnownModel) where
   itself lists entries = record { entries = entries; names = refl; kept = λ u before. before }
 
   module _ (lists : NetLists) (p : ℕ) (entries : HasEntries known lists) (is_pin : p < length known.pins) where
-    none_lists : is_listed (Pin p) lists.nets ≡ false → is_listed (Pin p) lists.special ≡ false → (a : NetModel) → Contains (both lists) a → Contains a.terminals (Pin p) → ⊥
+    none_lists : is_listed (Pin p) lists.nets ≡ false → is_listed (Pin p) lists.special ≡ false → (a : NetModel) → Contains (both lists) a
+        → Contains a.terminals (Pin p) → ⊥
     none_lists none other a in_a found =
         ⊎_elim (λ here. not_listed (Pin p) lists.nets a none here found) (λ there. not_listed (Pin p) lists.special a other there found)
         (Contains-append_cases lists.nets lists.special a in_a)
 
     module _ (none : (a : NetModel) → Contains (both lists) a → Contains a.terminals (Pin p) → ⊥) where
-      named_is : (name : List ℕ) (k l : Option ℕ) → place_of name (net_names lists.nets) ≡ k → place_of name (net_names lists.special) ≡ l → WithPin lists (to_entry lists p k l) p (Some name)
+      named_is : (name : List ℕ) (k l : Option ℕ) → place_of name (net_names lists.nets) ≡ k → place_of name (net_names lists.special) ≡ l
+          → WithPin lists (to_entry lists p k l) p (Some name)
       named_is name (Some k) l is other =
           let less = (named_gives_within (λ (n : NetModel). n.name) name lists.nets).given k is in
           let listing = to_nets known lists p entries is_pin none k less in
@@ -68,7 +71,8 @@ module _ (known : KnownModel) where
           record { grown = listing.grown; lone = in_some _ p (Some name) listing.lists_it }
       named_is name None None is other = record {
         grown = itself lists entries;
-        lone = λ named. absurd (named (rw (map-append (λ (n : NetModel). n.name) lists.nets lists.special) (no_place name (net_names lists.nets) (net_names lists.special) is other)));
+        lone = λ named. absurd (named (rw (map-append (λ (n : NetModel). n.name) lists.nets lists.special)
+            (no_place name (net_names lists.nets) (net_names lists.special) is other)));
       }
 
       to_named_is : (name : Option (List ℕ)) → WithPin lists (to_named lists p name) p name
@@ -102,7 +106,8 @@ module _ (known : KnownModel) where
     pub entries : HasEntries known lists
     pub in_nets : AreInNets lists (length known.pins)
 
-  all_pins : (lists : NetLists) (p : ℕ) (pins : List PinModel) → HasEntries known lists → AreInNets lists p → StandFrom p pins → p + length pins ≡ length known.pins → HasAllPins (with_lone_pins lists p pins)
+  all_pins : (lists : NetLists) (p : ℕ) (pins : List PinModel) → HasEntries known lists → AreInNets lists p → StandFrom p pins
+      → p + length pins ≡ length known.pins → HasAllPins (with_lone_pins lists p pins)
   unfolding with_lone_pins
   all_pins lists p [] entries before stand long =
       record { entries = entries; in_nets = λ q pin less at. before q pin (omega arith) at }

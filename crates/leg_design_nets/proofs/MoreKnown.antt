@@ -1,6 +1,7 @@
 -- What is read under the vias, components and pins before it holds under those that come after.
-use Rattle.std.proofs.Common.{◌≡◌, ℕ, zero, suc, ◌<◌, Bool, List, [], ◌∷◌, ◌++◌, append-nil, slice_get, All, Option, None, Some, sym, ap, ◌∙◌, arith}
+use Rattle.std.proofs.Common.{◌≡◌, ◌<◌, Bool, List, [], ◌++◌, append-nil, slice_get, All, Option, None, Some, sym, ap, ◌∙◌, arith}
 use Rattle.std.proofs.lemmas.List.Elements.{All-weaker}
+use Rattle.leg_lemmas.proofs.Places.{get_first}
 use Rattle.leg_lib_records.specs.Records.{ViaModel}
 use Rattle.leg_design_records.specs.declared.records.Component.{Component}
 use Rattle.leg_design_records.specs.declared.records.Terminal.{Terminal}
@@ -18,7 +19,8 @@ pub record Grows (known next : KnownModel) : Type 0 where
   pub terminals : (t : Terminal) → IsKnownTerminal known t → IsKnownTerminal next t
   pub wires : (special : Bool) (wire : Wire) → IsWire known.library known.vias special wire → IsWire next.library next.vias special wire
 
-pub nets_grow : (known next : KnownModel) (special : Bool) (nets : List NetModel) → Grows known next → All (IsKnownNet known special) nets → All (IsKnownNet next special) nets
+pub nets_grow : (known next : KnownModel) (special : Bool) (nets : List NetModel) → Grows known next → All (IsKnownNet known special) nets
+    → All (IsKnownNet next special) nets
 nets_grow known next special nets grows each =
     All-weaker (IsKnownNet known special) (IsKnownNet next special) (λ net is. record {
       name = is.name;
@@ -28,11 +30,6 @@ nets_grow known next special nets grows each =
       once = is.once;
       wires = All-weaker (IsWire known.library known.vias special) (IsWire next.library next.vias special) (grows.wires special) net.wires is.wires;
     }) nets each
-
-get_left : {X : Type 0} (xs ys : List X) (i : ℕ) (x : X) → slice_get xs i ≡ Some x → slice_get (xs ++ ys) i ≡ Some x
-get_left [] ys i x is = absurd (let e : ⊥ = cc in e)
-get_left (y ∷ xs) ys zero x is = is
-get_left (y ∷ xs) ys (suc i) x is = get_left xs ys i x is
 
 module _ (known : KnownModel) where
   pub vias_grow : (vias : List ViaModel) → known.vias ≡ [] → Grows known (record known { vias = vias })
@@ -44,8 +41,9 @@ module _ (known : KnownModel) where
     still : (special : Bool) (wire : Wire) → IsWire known.library known.vias special wire → IsWire known.library vias special wire
     still special (Segment layer from to width ext_from ext_to) is = is
     still special (ViaAt number at) is =
-        let there : slice_get (known.library.vias ++ []) number ≡ Some is.1.0 = ap (λ vias. slice_get (known.library.vias ++ vias) number) (sym none) ∙ is.1.1 in
-        (is.0, (is.1.0, get_left known.library.vias vias number is.1.0 (rw append-nil at there), is.1.2))
+        let there : slice_get (known.library.vias ++ []) number ≡ Some is.1.0 =
+        ap (λ vias. slice_get (known.library.vias ++ vias) number) (sym none) ∙ is.1.1 in
+        (is.0, (is.1.0, get_first known.library.vias vias number is.1.0 (rw append-nil at there), is.1.2))
     still special (Patch layer at rect) is = is
 
   pub components_grow : (components : List Component) → known.components ≡ [] → Grows known (record known { components = components })

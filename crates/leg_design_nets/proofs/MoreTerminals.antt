@@ -114,7 +114,8 @@ module _ (t : Terminal) where
     still_one_net before none a b u in_a in_b lists_a lists_b =
         ⊎_elim
         (λ old_a. ⊎_elim (λ old_b. before a b u old_a old_b lists_a lists_b) (λ new_b. named a b new_b old_a lists_a lists_b) (old_or_more b in_b))
-        (λ new_a. ⊎_elim (λ old_b. sym (named b a new_a old_b lists_b lists_a)) (λ new_b. ap (λ (n : NetModel). n.name) (sym new_a ∙ new_b)) (old_or_more b in_b))
+        (λ new_a. ⊎_elim (λ old_b. sym (named b a new_a old_b lists_b lists_a)) (λ new_b. ap (λ (n : NetModel). n.name) (sym new_a ∙ new_b))
+        (old_or_more b in_b))
         (old_or_more a in_a) where
           named : (old is : NetModel) → more t net ≡ is → Contains nets old → Contains old.terminals u → Contains is.terminals u → old.name ≡ is.name
           named old is same there lists lists_too =

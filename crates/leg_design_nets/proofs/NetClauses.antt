@@ -8,7 +8,7 @@ use Rattle.leg_lex.specs.Until.{until}
 use Rattle.leg_lex.proofs.Until.{Below, Shortens, below_none, below_some, below_bind, below_ask, below_if, below_more}
 use Rattle.leg_lex.proofs.Until as loops
 use Rattle.leg_lex.proofs.Parts.{rest_is}
-use Rattle.leg_lex.proofs.Shorter.{mark_below, keyword_below, word_below, next_below}
+use Rattle.leg_lex.proofs.Shorter.{mark_below, keyword_below, word_below}
 use Rattle.leg_grammar.specs.Def.Guard.{unless, is_over}
 use Rattle.leg_grammar.specs.Def.Namespace.{KnownModel}
 use Rattle.leg_grammar.specs.Def.Wiring.{is_wiring}
@@ -59,9 +59,6 @@ unfolding next_at
 surely_next [] some said = some refl
 surely_next (word ∷ words) some said = let e : ⊥ = cc in e
 
-pub next_shorter : (words : Words) (word : List ℕ) (rest : Words) → next_at words ≡ Some (word, rest) → length rest < length words
-next_shorter words word rest said = (next_below words).left word rest said
-
 from_plus_no_longer : (words : Words) (n : ℕ) → length words < n → length (from_plus words) < n
 unfolding from_plus
 from_plus_no_longer [] n less = less
@@ -78,7 +75,8 @@ use_clause_below parts clause =
     below_bind (omega arith) (keyword_below (codes "USE") clause) (λ start less.
     below_bind (omega arith) (word_below start.1) (λ word fewer. below_some (record parts { usage = Some word.0 }) word.1 fewer)))
 
-wiring_clause_below : (known : KnownModel) (special : Bool) (parts : NetParts) (clause : Words) → Below (length clause) (wiring_clause known special parts clause)
+wiring_clause_below : (known : KnownModel) (special : Bool) (parts : NetParts) (clause : Words)
+    → Below (length clause) (wiring_clause known special parts clause)
 unfolding wiring_clause
 wiring_clause_below known special parts clause =
     below_bind (omega arith) (wiring_below known special clause) (λ wires less.
@@ -103,17 +101,21 @@ net_clause_shortens known special parts words =
     below_bind (omega arith) (mark_below 43 words) (λ plus less.
     below_more (omega arith) (clause_below known special parts plus.1))
 
-pub net_clause_shorter : (known : KnownModel) (special : Bool) (parts more : NetParts) (words rest : Words) → net_clause known special parts words ≡ Some (more, rest) → length rest < length words
+pub net_clause_shorter : (known : KnownModel) (special : Bool) (parts more : NetParts) (words rest : Words)
+    → net_clause known special parts words ≡ Some (more, rest) → length rest < length words
 net_clause_shorter known special parts more words rest said = (net_clause_shortens known special parts words).left more rest said
 
 -- the loop over the clauses
-pub clauses_on : (known : KnownModel) (special : Bool) (parts more : NetParts) (words rest : Words) → net_clause known special parts words ≡ Some (more, rest) → (words ≡ [] → ⊥) → until is_over (net_clause known special) parts words ≡ until is_over (net_clause known special) more rest
+pub clauses_on : (known : KnownModel) (special : Bool) (parts more : NetParts) (words rest : Words) → net_clause known special parts words ≡ Some (more, rest)
+    → (words ≡ [] → ⊥) → until is_over (net_clause known special) parts words ≡ until is_over (net_clause known special) more rest
 clauses_on known special parts more words rest said some =
     loops.goes_on is_over (net_clause known special) (net_clause_shortens known special) parts more words rest (not_over_is words some) said
 
-pub clauses_end : (known : KnownModel) (special : Bool) (parts : NetParts) (words : Words) → words ≡ [] → until is_over (net_clause known special) parts words ≡ Some (parts, words)
+pub clauses_end : (known : KnownModel) (special : Bool) (parts : NetParts) (words : Words) → words ≡ []
+    → until is_over (net_clause known special) parts words ≡ Some (parts, words)
 clauses_end known special parts words none = loops.ends is_over (net_clause known special) parts words (over_is words none)
 
-pub clauses_fail : (known : KnownModel) (special : Bool) (parts : NetParts) (words : Words) → net_clause known special parts words ≡ None → (words ≡ [] → ⊥) → until is_over (net_clause known special) parts words ≡ None
+pub clauses_fail : (known : KnownModel) (special : Bool) (parts : NetParts) (words : Words) → net_clause known special parts words ≡ None → (words ≡ [] → ⊥)
+    → until is_over (net_clause known special) parts words ≡ None
 clauses_fail known special parts words said some =
     loops.fails is_over (net_clause known special) parts words (not_over_is words some) said

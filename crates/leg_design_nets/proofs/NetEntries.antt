@@ -61,7 +61,8 @@ terminal_form_shortens known special name nets terminals words =
     below_bind (omega arith) (terminals_below known special words) (λ said less.
     below_ask (over (add_terminal name nets) terminals said.0) (λ more. below_some more said.1 less))
 
-pub terminal_form_shorter : (known : KnownModel) (special : Bool) (name : List ℕ) (nets : List NetModel) (terminals more : List Terminal) (words rest : Words) → terminal_form known special name nets terminals words ≡ Some (more, rest) → length rest < length words
+pub terminal_form_shorter : (known : KnownModel) (special : Bool) (name : List ℕ) (nets : List NetModel) (terminals more : List Terminal) (words rest : Words)
+    → terminal_form known special name nets terminals words ≡ Some (more, rest) → length rest < length words
 terminal_form_shorter known special name nets terminals more words rest said =
     (terminal_form_shortens known special name nets terminals words).left more rest said
 
@@ -69,21 +70,26 @@ terminal_form_shorter known special name nets terminals more words rest said =
 itself : (xs : List Terminal) (i : ℕ) → i < length xs → get_or xs i (Comp 0 0) ≡ get_or xs i (get_or xs i (Comp 0 0))
 itself xs i less = get_or_default xs i (Comp 0 0) (get_or xs i (Comp 0 0)) less
 
-pub added_on : (name : List ℕ) (nets now others : List NetModel) (before next : List Terminal) (xs : List Terminal) (i : ℕ) → i < length xs → now ≡ nets → add_terminal name (now ++ others) before (get_or xs i (Comp 0 0)) ≡ Some next → over (add_terminal name (nets ++ others)) before (drop i xs) ≡ over (add_terminal name (nets ++ others)) next (drop (i + 1) xs)
+pub added_on : (name : List ℕ) (nets now others : List NetModel) (before next : List Terminal) (xs : List Terminal) (i : ℕ) → i < length xs → now ≡ nets
+    → add_terminal name (now ++ others) before (get_or xs i (Comp 0 0)) ≡ Some next
+    → over (add_terminal name (nets ++ others)) before (drop i xs) ≡ over (add_terminal name (nets ++ others)) next (drop (i + 1) xs)
 added_on name nets now others before next xs i less kept said =
     over_goes_on (add_terminal name (nets ++ others)) before next xs i (get_or xs i (Comp 0 0)) less (itself xs i less) (rw (← kept) said)
 
-pub added_fail : (name : List ℕ) (nets now others : List NetModel) (before : List Terminal) (xs : List Terminal) (i : ℕ) → i < length xs → now ≡ nets → add_terminal name (now ++ others) before (get_or xs i (Comp 0 0)) ≡ None → over (add_terminal name (nets ++ others)) before (drop i xs) ≡ None
+pub added_fail : (name : List ℕ) (nets now others : List NetModel) (before : List Terminal) (xs : List Terminal) (i : ℕ) → i < length xs → now ≡ nets
+    → add_terminal name (now ++ others) before (get_or xs i (Comp 0 0)) ≡ None → over (add_terminal name (nets ++ others)) before (drop i xs) ≡ None
 added_fail name nets now others before xs i less kept said =
     over_fails (add_terminal name (nets ++ others)) before xs i (get_or xs i (Comp 0 0)) less (itself xs i less) (rw (← kept) said)
 
-pub added_end : (name : List ℕ) (nets : List NetModel) (before : List Terminal) (xs : List Terminal) (i : ℕ) → length xs ≤ i → over (add_terminal name nets) before (drop i xs) ≡ Some before
+pub added_end : (name : List ℕ) (nets : List NetModel) (before : List Terminal) (xs : List Terminal) (i : ℕ) → length xs ≤ i
+    → over (add_terminal name nets) before (drop i xs) ≡ Some before
 added_end name nets before xs i past = over_ends (add_terminal name nets) before xs i past
 
 -- the loop over the pairs of parentheses, which leaves the entries before
 pub terminals_on : (known : KnownModel) (special : Bool) (name : List ℕ) (nets now others : List NetModel) (terminals more : List Terminal) (words rest : Words) → now ≡ nets → terminal_form known special name (now ++ others) terminals words ≡ Some (more, rest) → is_at (codes "(") words ≡ true → until at_no_terminal (terminal_form known special name (nets ++ others)) terminals words ≡ until at_no_terminal (terminal_form known special name (nets ++ others)) more rest
 terminals_on known special name nets now others terminals more words rest kept said there =
-    loops.goes_on at_no_terminal (terminal_form known special name (nets ++ others)) (terminal_form_shortens known special name (nets ++ others)) terminals more words rest (rw there refl) (rw (← kept) said)
+    loops.goes_on at_no_terminal (terminal_form known special name (nets ++ others))
+    (terminal_form_shortens known special name (nets ++ others)) terminals more words rest (rw there refl) (rw (← kept) said)
 
 pub terminals_fail : (known : KnownModel) (special : Bool) (name : List ℕ) (nets now others : List NetModel) (terminals : List Terminal) (words : Words) → now ≡ nets → terminal_form known special name (now ++ others) terminals words ≡ None → is_at (codes "(") words ≡ true → until at_no_terminal (terminal_form known special name (nets ++ others)) terminals words ≡ None
 terminals_fail known special name nets now others terminals words kept said there =
@@ -105,11 +111,14 @@ net_entry_shortens known special others nets words =
     below_ask (net_in known special others nets statement.0) (λ net.
     below_ask (unless (are_too_many others (nets ++ net ∷ []))) (λ few. below_some (nets ++ net ∷ []) statement.1 less))))
 
-pub net_entry_shorter : (known : KnownModel) (special : Bool) (others : List NetModel) (nets more : List NetModel) (words rest : Words) → net_entry known special others nets words ≡ Some (more, rest) → length rest < length words
+pub net_entry_shorter : (known : KnownModel) (special : Bool) (others : List NetModel) (nets more : List NetModel) (words rest : Words)
+    → net_entry known special others nets words ≡ Some (more, rest) → length rest < length words
 net_entry_shorter known special others nets more words rest said = (net_entry_shortens known special others nets words).left more rest said
 
 -- how many parts there are with one more entry
-pub too_many : (others nets : List NetModel) (net : NetModel) → are_too_many others (nets ++ net ∷ []) ≡ (nat_lt PART_LIMIT (terminal_count nets + length net.terminals + terminal_count others) || nat_lt PART_LIMIT (wire_count nets + length net.wires + wire_count others))
+pub too_many : (others nets : List NetModel) (net : NetModel)
+    → are_too_many others (nets ++ net ∷ []) ≡ (nat_lt PART_LIMIT (terminal_count nets + length net.terminals + terminal_count others) || nat_lt PART_LIMIT
+    (wire_count nets + length net.wires + wire_count others))
 too_many others nets net = rw (terminals_more nets net, wires_more nets net) refl
 
 pub few_terminals : (a b c : ℕ) (other : Bool) → (nat_lt PART_LIMIT (a + b + c) || other) ≡ false → a + b ≤ PART_LIMIT

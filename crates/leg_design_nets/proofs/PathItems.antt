@@ -108,7 +108,8 @@ unfolding one_item
 one_item_shortens known special items words =
     below_bind (omega arith) (item_below known special words) (λ item less. below_some (items ++ item.0 ∷ []) item.1 less)
 
-pub one_item_shorter : (known : KnownModel) (special : Bool) (items next : List Item) (words rest : Words) → one_item known special items words ≡ Some (next, rest) → length rest < length words
+pub one_item_shorter : (known : KnownModel) (special : Bool) (items next : List Item) (words rest : Words)
+    → one_item known special items words ≡ Some (next, rest) → length rest < length words
 one_item_shorter known special items next words rest said = (one_item_shortens known special items words).left next rest said
 
 -- in small letters, only the plus is the plus

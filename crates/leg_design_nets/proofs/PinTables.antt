@@ -6,6 +6,7 @@ use Rattle.std.specs.Str.{bytes_eq}
 use Rattle.std.proofs.lemmas.Bool.{cases_eq, cases_lt, false≢true}
 use Rattle.std.proofs.lemmas.List.{length-take, map-append, take_more}
 use Rattle.std.proofs.lemmas.Option.{slice_get_past}
+use Rattle.leg_lemmas.proofs.Places.{in_first, get_last}
 use Rattle.leg_lex.specs.Words.{◌>>=◌}
 use Rattle.leg_lex.specs.NameLookup.{place_of}
 use Rattle.leg_lex.proofs.NameLookup.{same_name, index_push}
@@ -22,20 +23,12 @@ pub taken_length : {X : Type 0} (xs : List X) (i : ℕ) → i < length xs → le
 taken_length xs i less = let long = length-take i xs in omega (arith, long, less)
 
 -- an element of a list with one more behind it
-in_first : {X : Type 0} (xs : List X) (y : X) (m : ℕ) → m < length xs → slice_get (xs ++ y ∷ []) m ≡ slice_get xs m
-in_first [] y m less = absurd (omega arith)
-in_first (x ∷ xs) y zero less = refl
-in_first (x ∷ xs) y (suc m) less = in_first xs y m (omega arith)
-
-at_end : {X : Type 0} (xs : List X) (y : X) → slice_get (xs ++ y ∷ []) (length xs) ≡ Some y
-at_end [] y = refl
-at_end (x ∷ xs) y = at_end xs y
-
 past_end : {X : Type 0} (xs : List X) (y : X) (m : ℕ) → length xs < m → slice_get (xs ++ y ∷ []) m ≡ None
 past_end xs y m more = slice_get_past (xs ++ y ∷ []) m (let long = length-append xs (y ∷ []) in omega (arith, long, more))
 
 -- the last of them, or one of the others
-last_or_before : {X : Type 0} (xs : List X) (y : X) (m : ℕ) (x : X) → slice_get (xs ++ y ∷ []) m ≡ Some x → ((m ≡ length xs) × (x ≡ y)) ⊎ (slice_get xs m ≡ Some x)
+last_or_before : {X : Type 0} (xs : List X) (y : X) (m : ℕ) (x : X) → slice_get (xs ++ y ∷ []) m ≡ Some x
+    → ((m ≡ length xs) × (x ≡ y)) ⊎ (slice_get xs m ≡ Some x)
 last_or_before [] y zero x is = inl (refl, let same : x ≡ y = cc in same)
 last_or_before [] y (suc m) x is = absurd (let e : ⊥ = cc in e)
 last_or_before (first ∷ xs) y zero x is = inr is
@@ -49,7 +42,8 @@ last_or_before (first ∷ xs) y (suc m) x is =
 abbrev pub pin_names : List MasterPinModel → List (List ℕ)
 pin_names pins = map (λ p. p.name) pins
 
-pub names_taken : (pins : List MasterPinModel) (i : ℕ) (x : MasterPinModel) → i < length pins → x ≡ get_or pins i x → pin_names (take (i + 1) pins) ≡ pin_names (take i pins) ++ x.name ∷ []
+pub names_taken : (pins : List MasterPinModel) (i : ℕ) (x : MasterPinModel) → i < length pins → x ≡ get_or pins i x
+    → pin_names (take (i + 1) pins) ≡ pin_names (take i pins) ++ x.name ∷ []
 names_taken pins i x less is = ap pin_names (taken pins i x less is) ∙ map-append (λ (p : MasterPinModel). p.name) (take i pins) (x ∷ [])
 
 some_suc : (o : Option ℕ) → is_some (option_map suc o) ≡ is_some o
@@ -62,18 +56,22 @@ place_before q name [] apart = rw apart refl
 place_before q name (first ∷ names) apart = rw (place_before q name names apart) refl
 
 -- a name at the end that stands before it too
-pub place_again : (name : List ℕ) (names : List (List ℕ)) → is_some (place_of name names) ≡ true → (q : List ℕ) → place_of q (names ++ name ∷ []) ≡ place_of q names
+pub place_again : (name : List ℕ) (names : List (List ℕ)) → is_some (place_of name names) ≡ true → (q : List ℕ)
+    → place_of q (names ++ name ∷ []) ≡ place_of q names
 place_again name [] there q = absurd (false≢true there)
-place_again name (first ∷ names) there q = by (λ later. place_again name names later q) (bytes_eq name first) refl (bytes_eq q first) refl (bytes_eq q name) refl where
-  by : (is_some (place_of name names) ≡ true → place_of q (names ++ name ∷ []) ≡ place_of q names) → (here : Bool) → bytes_eq name first ≡ here → (found : Bool) → bytes_eq q first ≡ found → (last : Bool) → bytes_eq q name ≡ last → place_of q (first ∷ names ++ name ∷ []) ≡ place_of q (first ∷ names)
-  by rest here is true found last end = rw found refl
-  by rest here is false found false end = rw (found, place_before q name names end) refl
-  by rest true is false found true end =
-      let same : q ≡ name = same_name q name end in
-      absurd (false≢true (sym found ∙ rw same is))
-  by rest false is false found true end =
-      let later : is_some (place_of name names) ≡ true = sym (some_suc (place_of name names)) ∙ rw is at there in
-      rw (found, rest later) refl
+place_again name (first ∷ names) there q =
+    by (λ later. place_again name names later q) (bytes_eq name first) refl (bytes_eq q first) refl (bytes_eq q name) refl where
+      by : (is_some (place_of name names) ≡ true → place_of q (names ++ name ∷ []) ≡ place_of q names) → (here : Bool) → bytes_eq name first ≡ here
+          → (found : Bool)
+          → bytes_eq q first ≡ found → (last : Bool) → bytes_eq q name ≡ last → place_of q (first ∷ names ++ name ∷ []) ≡ place_of q (first ∷ names)
+      by rest here is true found last end = rw found refl
+      by rest here is false found false end = rw (found, place_before q name names end) refl
+      by rest true is false found true end =
+          let same : q ≡ name = same_name q name end in
+          absurd (false≢true (sym found ∙ rw same is))
+      by rest false is false found true end =
+          let later : is_some (place_of name names) ≡ true = sym (some_suc (place_of name names)) ∙ rw is at there in
+          rw (found, rest later) refl
 
 -- the name at the end, or one before it
 pub some_place : (q name : List ℕ) (names : List (List ℕ)) → is_some (place_of q (names ++ name ∷ [])) ≡ true → (is_some (place_of q names) ≡ true) ⊎ (q ≡ name)
@@ -84,17 +82,24 @@ some_place q name names there = by (bytes_eq q name) refl where
 
 module _ {S : Type 0} where
   -- A name that the table has says nothing new.
-  pub places_known : (table : HashMap (Bor (List ℕ)) ℕ S) (pins : List MasterPinModel) (i : ℕ) (x : MasterPinModel) → i < length pins → x ≡ get_or pins i x → ((q : List ℕ) → place_in_table table q ≡ place_of q (pin_names (take i pins))) → is_some (place_in_table table x.name) ≡ true → (q : List ℕ) → place_in_table table q ≡ place_of q (pin_names (take (i + 1) pins))
+  pub places_known : (table : HashMap (Bor (List ℕ)) ℕ S) (pins : List MasterPinModel) (i : ℕ) (x : MasterPinModel) → i < length pins → x ≡ get_or pins i x
+      → ((q : List ℕ) → place_in_table table q ≡ place_of q (pin_names (take i pins))) → is_some (place_in_table table x.name) ≡ true → (q : List ℕ)
+      → place_in_table table q ≡ place_of q (pin_names (take (i + 1) pins))
   places_known table pins i x less is places known q =
       let there : is_some (place_of x.name (pin_names (take i pins))) ≡ true = ap (λ (o : Option ℕ). is_some o) (sym (places x.name)) ∙ known in
       places q ∙ sym (ap (place_of q) (names_taken pins i x less is) ∙ place_again x.name (pin_names (take i pins)) there q)
 
   -- A new name has the last place.
-  pub places_new : (name : Bor (List ℕ)) (table after : HashMap (Bor (List ℕ)) ℕ S) (pins : List MasterPinModel) (i : ℕ) (x : MasterPinModel) → i < length pins → x ≡ get_or pins i x → name.now ≡ x.name → ((q : List ℕ) → place_in_table table q ≡ place_of q (pin_names (take i pins))) → is_some (place_in_table table name.now) ≡ false → hash.UpdatesBy (λ a b. bytes_eq a.now b.now) (λ key. bytes_eq name.now key.now) table after (Some i) → (q : List ℕ) → place_in_table after q ≡ place_of q (pin_names (take (i + 1) pins))
+  pub places_new : (name : Bor (List ℕ)) (table after : HashMap (Bor (List ℕ)) ℕ S) (pins : List MasterPinModel) (i : ℕ) (x : MasterPinModel) → i < length pins
+      → x ≡ get_or pins i x → name.now ≡ x.name → ((q : List ℕ) → place_in_table table q ≡ place_of q (pin_names (take i pins)))
+      → is_some (place_in_table table name.now) ≡ false → hash.UpdatesBy (λ a b. bytes_eq a.now b.now) (λ key. bytes_eq name.now key.now) table after (Some i)
+      → (q : List ℕ) → place_in_table after q ≡ place_of q (pin_names (take (i + 1) pins))
   places_new name table after pins i x less is named places new updates =
-      let none : place_of name.now (pin_names (take i pins)) ≡ None = is_none (place_of name.now (pin_names (take i pins))) (ap (λ (o : Option ℕ). is_some o) (sym (places name.now)) ∙ new) in
+      let none : place_of name.now (pin_names (take i pins)) ≡ None =
+      is_none (place_of name.now (pin_names (take i pins))) (ap (λ (o : Option ℕ). is_some o) (sym (places name.now)) ∙ new) in
       let long : i ≡ length (pin_names (take i pins)) = sym (mapped_length (take i pins) ∙ taken_length pins i less) in
-      index_push name table after (pin_names (take i pins)) (pin_names (take (i + 1) pins)) i none places updates long (names_taken pins i x less is ∙ ap (λ n. pin_names (take i pins) ++ n ∷ []) (sym named)) where
+      index_push name table after (pin_names (take i pins)) (pin_names (take (i + 1) pins)) i none places updates long
+      (names_taken pins i x less is ∙ ap (λ n. pin_names (take i pins) ++ n ∷ []) (sym named)) where
         is_none : (o : Option ℕ) → is_some o ≡ false → o ≡ None
         is_none None e = refl
         is_none (Some n) e = absurd (false≢true (sym e))
@@ -104,25 +109,33 @@ module _ {S : Type 0} where
         mapped_length (p ∷ ps) = ap suc (mapped_length ps)
 
   -- The places of one more macro.
-  pub places_more : (masters : List MasterModel) (lists : List (List ℕ)) (tables : List (HashMap (Bor (List ℕ)) ℕ S)) (table : HashMap (Bor (List ℕ)) ℕ S) (i : ℕ) (x : MasterModel) → i < length masters → x ≡ get_or masters i x → length tables ≡ i → ArePinPlaces (take i masters) lists (place_in_tables tables) → ((q : List ℕ) → place_in_table table q ≡ place_of q (used_names x (get_or lists i []))) → ArePinPlaces (take (i + 1) masters) lists (place_in_tables (tables ++ table ∷ []))
+  pub places_more : (masters : List MasterModel) (lists : List (List ℕ)) (tables : List (HashMap (Bor (List ℕ)) ℕ S)) (table : HashMap (Bor (List ℕ)) ℕ S)
+      (i : ℕ) (x : MasterModel)
+      → i < length masters → x ≡ get_or masters i x → length tables ≡ i → ArePinPlaces (take i masters) lists (place_in_tables tables)
+      → ((q : List ℕ) → place_in_table table q ≡ place_of q (used_names x (get_or lists i [])))
+      → ArePinPlaces (take (i + 1) masters) lists (place_in_tables (tables ++ table ∷ []))
   places_more masters lists tables table i x less is long before new m q =
       rw (taken masters i x less is) (by (cases_lt m i) (cases_eq m i)) where
         size : length (take i masters) ≡ i
         size = taken_length masters i less
 
-        by : (m < i) ⊎ (i ≤ m) → (m ≡ i) ⊎ (m ≡ i → ⊥) → place_in_tables (tables ++ table ∷ []) m q ≡ (slice_get (take i masters ++ x ∷ []) m >>= λ master. place_of q (used_names master (get_or lists m [])))
+        by : (m < i) ⊎ (i ≤ m) → (m ≡ i) ⊎ (m ≡ i → ⊥)
+            → place_in_tables (tables ++ table ∷ []) m q ≡ (slice_get (take i masters ++ x ∷ []) m >>= λ master. place_of q
+            (used_names master (get_or lists m [])))
         by (inl early) either =
-            rw (in_first tables table m (omega (arith, long, early)), in_first (take i masters) x m (omega (arith, size, early))) (before m q)
+            rw (in_first tables (table ∷ []) m (omega (arith, long, early)), in_first (take i masters) (x ∷ []) m (omega (arith, size, early))) (before m q)
         by (inr late) (inl last) =
-            let here : slice_get (tables ++ table ∷ []) m ≡ Some table = rw (last, ← long) (at_end tables table) in
-            let there : slice_get (take i masters ++ x ∷ []) m ≡ Some x = rw last (rw size at (at_end (take i masters) x)) in
+            let here : slice_get (tables ++ table ∷ []) m ≡ Some table = rw (last, ← long) (get_last tables table) in
+            let there : slice_get (take i masters ++ x ∷ []) m ≡ Some x = rw last (rw size at (get_last (take i masters) x)) in
             rw (here, there, last) (new q)
         by (inr late) (inr other) =
             let after : i < m = omega (arith, late, other) in
             rw (past_end tables table m (omega (arith, long, after)), past_end (take i masters) x m (omega (arith, size, after))) refl
 
 -- The macros under the names, with one more macro.
-pub under_more : (masters : List MasterModel) (lists : List (List ℕ)) (old new : List ℕ → List ℕ) (i : ℕ) (x : MasterModel) → i < length masters → x ≡ get_or masters i x → AreUnder (take i masters) lists old → ((q : List ℕ) (m : ℕ) → is_in m (old q) ≡ true → is_in m (new q) ≡ true) → ((q : List ℕ) → is_some (place_of q (used_names x (get_or lists i []))) ≡ true → is_in i (new q) ≡ true) → AreUnder (take (i + 1) masters) lists new
+pub under_more : (masters : List MasterModel) (lists : List (List ℕ)) (old new : List ℕ → List ℕ) (i : ℕ) (x : MasterModel) → i < length masters
+    → x ≡ get_or masters i x → AreUnder (take i masters) lists old → ((q : List ℕ) (m : ℕ) → is_in m (old q) ≡ true → is_in m (new q) ≡ true)
+    → ((q : List ℕ) → is_some (place_of q (used_names x (get_or lists i []))) ≡ true → is_in i (new q) ≡ true) → AreUnder (take (i + 1) masters) lists new
 under_more masters lists old new i x less is before kept added m master q there named =
     ⊎_elim
     (λ (last : (m ≡ length (take i masters)) × (master ≡ x)).
@@ -132,7 +145,9 @@ under_more masters lists old new i x less is before kept added m master q there 
     (last_or_before (take i masters) x m master (rw (taken masters i x less is) at there))
 
 -- that stands in the list of its macro
-pub listed_more : (components : List Component) (lists after : List (List ℕ)) (i m : ℕ) (x : Component) → i < length components → x ≡ get_or components i x → AreListed (take i components) lists → m ≡ x.master → length after ≡ length lists → is_in i (get_or after m []) ≡ true → ((k n : ℕ) → is_in n (get_or lists k []) ≡ true → is_in n (get_or after k []) ≡ true) → AreListed (take (i + 1) components) after
+pub listed_more : (components : List Component) (lists after : List (List ℕ)) (i m : ℕ) (x : Component) → i < length components → x ≡ get_or components i x
+    → AreListed (take i components) lists → m ≡ x.master → length after ≡ length lists → is_in i (get_or after m []) ≡ true
+    → ((k n : ℕ) → is_in n (get_or lists k []) ≡ true → is_in n (get_or after k []) ≡ true) → AreListed (take (i + 1) components) after
 listed_more components lists after i m x less is before of_it long added kept c component there inside =
     ⊎_elim
     (λ (last : (c ≡ length (take i components)) × (component ≡ x)).
@@ -141,10 +156,13 @@ listed_more components lists after i m x less is before of_it long added kept c 
     (λ earlier. kept component.master c (before c component earlier (rw long at inside)))
     (last_or_before (take i components) x c component (rw (taken components i x less is) at there))
 
-pub length_longer : (lists whole : List (List ℕ)) (place number : ℕ) → whole ≡ set lists place (get_or lists place [] ++ number ∷ []) → length whole ≡ length lists
+pub length_longer : (lists whole : List (List ℕ)) (place number : ℕ) → whole ≡ set lists place (get_or lists place [] ++ number ∷ [])
+    → length whole ≡ length lists
 length_longer lists whole place number put = rw put (length-set lists place (get_or lists place [] ++ number ∷ []))
 
-pub listed_longer : (components : List Component) (lists whole : List (List ℕ)) (i : ℕ) (x : Component) → i < length components → x ≡ get_or components i x → AreListed (take i components) lists → x.master < length lists → whole ≡ set lists x.master (get_or lists x.master [] ++ i ∷ []) → AreListed (take (i + 1) components) whole
+pub listed_longer : (components : List Component) (lists whole : List (List ℕ)) (i : ℕ) (x : Component) → i < length components → x ≡ get_or components i x
+    → AreListed (take i components) lists → x.master < length lists → whole ≡ set lists x.master (get_or lists x.master [] ++ i ∷ [])
+    → AreListed (take (i + 1) components) whole
 listed_longer components lists whole i x less is before within put =
     listed_more components lists whole i x.master x less is before refl
     (length_longer lists whole x.master i put)
@@ -152,7 +170,8 @@ listed_longer components lists whole i x less is before within put =
     (λ k n there. rw put (numbers_kept lists x.master i within k n there))
 
 -- that is of no such macro
-pub listed_past : (components : List Component) (lists : List (List ℕ)) (i : ℕ) (x : Component) → i < length components → x ≡ get_or components i x → AreListed (take i components) lists → length lists ≤ x.master → AreListed (take (i + 1) components) lists
+pub listed_past : (components : List Component) (lists : List (List ℕ)) (i : ℕ) (x : Component) → i < length components → x ≡ get_or components i x
+    → AreListed (take i components) lists → length lists ≤ x.master → AreListed (take (i + 1) components) lists
 listed_past components lists i x less is before past c component there inside =
     ⊎_elim
     (λ (last : (c ≡ length (take i components)) × (component ≡ x)).

@@ -59,7 +59,8 @@ module _ (known : KnownModel) (name : List ℕ) where
   abbrev StandFrom : ℕ → List Component → Type 0
   StandFrom next components = (i : ℕ) → slice_get known.components (next + i) ≡ slice_get components i
 
-  no_pins : (numbers : List ℕ) (next : ℕ) → Rising next numbers → ((c : ℕ) → next ≤ c → pin_of_numbered known c name ≡ None) → pins_of_these known name numbers ≡ []
+  no_pins : (numbers : List ℕ) (next : ℕ) → Rising next numbers → ((c : ℕ) → next ≤ c → pin_of_numbered known c name ≡ None)
+      → pins_of_these known name numbers ≡ []
   unfolding pins_of_these Rising
   no_pins [] next rise none = refl
   no_pins (c ∷ numbers) next rise none =
@@ -89,11 +90,13 @@ module _ (known : KnownModel) (name : List ℕ) where
     pin_here : pin_of_numbered known next name ≡ pin_of_component known.library component name
     pin_here = rw here refl
 
-  all_pins : (components : List Component) (next : ℕ) (numbers : List ℕ) → StandFrom next components → Rising next numbers → AreThere next numbers → pins_of_these known name numbers ≡ pins_of_all known.library name next components
+  all_pins : (components : List Component) (next : ℕ) (numbers : List ℕ) → StandFrom next components → Rising next numbers → AreThere next numbers
+      → pins_of_these known name numbers ≡ pins_of_all known.library name next components
   unfolding pins_of_all pins_of_these Rising
   all_pins [] next numbers stand rise there = no_pins numbers next rise (λ c more. nothing_beyond next c stand more)
   all_pins (component ∷ components) next [] stand rise there =
-      let none : pin_of_component known.library component name ≡ None = sym (pin_here next component components stand) ∙ has_none next [] there (λ at. absurd (omega (arith, at.1))) in
+      let none : pin_of_component known.library component name ≡ None =
+      sym (pin_here next component components stand) ∙ has_none next [] there (λ at. absurd (omega (arith, at.1))) in
       rw none (all_pins components (suc next) [] (later next component components stand) tt (λ c more is. there c (omega (arith, more)) is))
   all_pins (component ∷ components) next (c ∷ numbers) stand rise there =
       let least = rise.0 in
@@ -105,25 +108,32 @@ module _ (known : KnownModel) (name : List ℕ) where
             rw (same, rest, pin_here next component components stand) refl
         | inr apart ↦
             let above : suc next ≤ c = omega (arith, least, apart) in
-            let nowhere : Contains (c ∷ numbers) next → ⊥ = λ at. let beyond = rising_above (suc next) (c ∷ numbers) next (above, rise.1) at in absurd (omega (arith, beyond)) in
-            let none : pin_of_component known.library component name ≡ None = sym (pin_here next component components stand) ∙ has_none next (c ∷ numbers) there nowhere in
-            rw none (all_pins components (suc next) (c ∷ numbers) (later next component components stand) (above, rise.1) (λ n more is. there n (omega (arith, more)) is))
+            let nowhere : Contains (c ∷ numbers) next → ⊥ =
+            λ at. let beyond = rising_above (suc next) (c ∷ numbers) next (above, rise.1) at in absurd (omega (arith, beyond)) in
+            let none : pin_of_component known.library component name ≡ None =
+            sym (pin_here next component components stand) ∙ has_none next (c ∷ numbers) there nowhere in
+            rw none (all_pins components (suc next) (c ∷ numbers) (later next component components stand) (above, rise.1)
+            (λ n more is. there n (omega (arith, more)) is))
       ]
 
-  pub pins_are_all : (numbers : List ℕ) → IsStrictlyIncreasing numbers → ((c : ℕ) → is_some (pin_of_numbered known c name) ≡ true → Contains numbers c) → pins_of_these known name numbers ≡ pins_of_all known.library name 0 known.components
+  pub pins_are_all : (numbers : List ℕ) → IsStrictlyIncreasing numbers → ((c : ℕ) → is_some (pin_of_numbered known c name) ≡ true → Contains numbers c)
+      → pins_of_these known name numbers ≡ pins_of_all known.library name 0 known.components
   pins_are_all numbers rise there =
-      all_pins known.components 0 numbers (λ i. let place : 0 + i ≡ i = omega arith in rw place refl) (rising_from numbers 0 rise (λ some. omega arith)) (λ c more is. there c is)
+      all_pins known.components 0 numbers (λ i. let place : 0 + i ≡ i = omega arith in
+      rw place refl) (rising_from numbers 0 rise (λ some. omega arith)) (λ c more is. there c is)
 
   -- the pins of the components of the numbers from place i on, behind those that were found before
   abbrev pub behind : List Terminal → List ℕ → ℕ → List Terminal
   behind found numbers i = found ++ pins_of_these known name (drop i numbers)
 
-  pub one_has : (found more : List Terminal) (numbers : List ℕ) (i c k : ℕ) → i < length numbers → c ≡ get_or numbers i c → pin_of_numbered known c name ≡ Some k → more ≡ found ++ Comp c k ∷ [] → behind found numbers i ≡ behind more numbers (i + 1)
+  pub one_has : (found more : List Terminal) (numbers : List ℕ) (i c k : ℕ) → i < length numbers → c ≡ get_or numbers i c
+      → pin_of_numbered known c name ≡ Some k → more ≡ found ++ Comp c k ∷ [] → behind found numbers i ≡ behind more numbers (i + 1)
   unfolding pins_of_these
   one_has found more numbers i c k less is has pushed =
       rw (at_front numbers i c less is, has, pushed, append_assoc) refl
 
-  pub one_has_not : (found : List Terminal) (numbers : List ℕ) (i c : ℕ) → i < length numbers → c ≡ get_or numbers i c → pin_of_numbered known c name ≡ None → behind found numbers i ≡ behind found numbers (i + 1)
+  pub one_has_not : (found : List Terminal) (numbers : List ℕ) (i c : ℕ) → i < length numbers → c ≡ get_or numbers i c → pin_of_numbered known c name ≡ None
+      → behind found numbers i ≡ behind found numbers (i + 1)
   unfolding pins_of_these
   one_has_not found numbers i c less is has_not = rw (at_front numbers i c less is, has_not) refl
 

@@ -12,12 +12,14 @@ use Rattle.leg_grammar.specs.Def.LonePins.{is_listed}
 use Rattle.leg_design_records.specs.Records.{NetModel}
 
 -- a terminal that isn't among others is none of them
-pub not_among : (t : Terminal) (terminals : List Terminal) → is_among t terminals ≡ false → (k : ℕ) (d : Terminal) → k < length terminals → get_or terminals k d ≢ t
+pub not_among : (t : Terminal) (terminals : List Terminal) → is_among t terminals ≡ false → (k : ℕ) (d : Terminal) → k < length terminals
+    → get_or terminals k d ≢ t
 not_among t terminals other k d less = λ same.
     true≢false (sym (list_any_at (is_same_terminal t) terminals k d less (ap (is_same_terminal t) same ∙ same_itself t)) ∙ other)
 
 -- an entry that lists a terminal which no other net lists is of the net's name
-pub of_this_net : (name : List ℕ) (t : Terminal) (nets : List NetModel) (net : NetModel) → is_of_other_net name t nets ≡ false → Contains nets net → Contains net.terminals t → net.name ≡ name
+pub of_this_net : (name : List ℕ) (t : Terminal) (nets : List NetModel) (net : NetModel) → is_of_other_net name t nets ≡ false → Contains nets net
+    → Contains net.terminals t → net.name ≡ name
 of_this_net name t nets net none there lists = by (bytes_eq net.name name) refl where
   by : (same : Bool) → bytes_eq net.name name ≡ same → net.name ≡ name
   by true same = same_name net.name name same

@@ -53,9 +53,11 @@ module _ (known : KnownModel) where
     pub kept : (u : Terminal) → Lists (both lists) u → Lists (both next) u
 
   -- the entry with the pin as one more terminal
-  more_is : (special : Bool) (p : ℕ) (net : NetModel) → p < length known.pins → IsKnownNet known special net → (Contains net.terminals (Pin p) → ⊥) → IsKnownNet known special (more (Pin p) net)
+  more_is : (special : Bool) (p : ℕ) (net : NetModel) → p < length known.pins → IsKnownNet known special net → (Contains net.terminals (Pin p) → ⊥)
+      → IsKnownNet known special (more (Pin p) net)
   more_is special p net there is none =
-      let apart : is_among (Pin p) net.terminals ≡ false = false_from_ne_true (is_among (Pin p) net.terminals) (λ among. none (among_contains (Pin p) net.terminals among)) in
+      let apart : is_among (Pin p) net.terminals ≡ false =
+      false_from_ne_true (is_among (Pin p) net.terminals) (λ among. none (among_contains (Pin p) net.terminals among)) in
       record {
         name = is.name;
         no_must_join = is.no_must_join;
@@ -65,7 +67,8 @@ module _ (known : KnownModel) where
         wires = is.wires;
       }
 
-  module _ (lists : NetLists) (p : ℕ) (entries : HasEntries lists) (is_pin : p < length known.pins) (none : (a : NetModel) → Contains (both lists) a → Contains a.terminals (Pin p) → ⊥) where
+  module _ (lists : NetLists) (p : ℕ) (entries : HasEntries lists) (is_pin : p < length known.pins)
+      (none : (a : NetModel) → Contains (both lists) a → Contains a.terminals (Pin p) → ⊥) where
     -- the pin goes to an entry
     pub record Listing (next : NetLists) : Type 0 where
       pub grown : AreGrown lists next
@@ -80,7 +83,8 @@ module _ (known : KnownModel) where
         record {
           grown = record {
             entries = record {
-              nets = All-set (IsKnownNet known false) lists.nets k (more (Pin p) net) (more_is false p net is_pin is (none net (k, whole.within, whole.is))) entries.nets;
+              nets = All-set (IsKnownNet known false) lists.nets k (more (Pin p) net)
+                  (more_is false p net is_pin is (none net (k, whole.within, whole.is))) entries.nets;
               nets_apart = rw (more_terminals.names_kept (Pin p) lists.nets k net stands.is) entries.nets_apart;
               special = entries.special;
               special_apart = entries.special_apart;
@@ -105,7 +109,8 @@ module _ (known : KnownModel) where
             entries = record {
               nets = entries.nets;
               nets_apart = entries.nets_apart;
-              special = All-set (IsKnownNet known true) lists.special k (more (Pin p) net) (more_is true p net is_pin is (none net (at, whole.within, whole.is))) entries.special;
+              special = All-set (IsKnownNet known true) lists.special k (more (Pin p) net)
+                  (more_is true p net is_pin is (none net (at, whole.within, whole.is))) entries.special;
               special_apart = rw (more_terminals.names_kept (Pin p) lists.special k net stands.is) entries.special_apart;
               one_net = rw same (more_terminals.still_one_net (Pin p) (both lists) at net whole entries.one_net none);
               few = rw (length-set lists.special k (more (Pin p) net)) entries.few;

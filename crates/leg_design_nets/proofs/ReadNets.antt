@@ -9,6 +9,7 @@ use Rattle.leg_lex.specs.Words.{Words, is_keyword, is_name, is_at, keyword_at, m
 use Rattle.leg_lex.specs.Statements.{statement_at}
 use Rattle.leg_lex.specs.NameLookup.{place_of, AreApart}
 use Rattle.leg_lex.proofs.NameLookup.{apart_push}
+use Rattle.leg_lex.proofs.GivesAll.{until_gives}
 use Rattle.leg_design_records.specs.declared.limits.TheConstants.{ENTRY_LIMIT, PART_LIMIT}
 use Rattle.leg_grammar.specs.Def.Guard.{unless, is_over}
 use Rattle.leg_grammar.specs.Def.Namespace.{KnownModel}
@@ -18,7 +19,7 @@ use Rattle.leg_design_records.specs.Records.{NetModel, net_names, terminal_count
 use Rattle.leg_grammar.specs.Def.Net.{NetParts, no_net_parts, is_left_out, use_clause, wiring_clause, past_clause, clause_at, net_clause, net_name_at, net_in, are_too_many, net_entry, section_word, nets_at}
 use Rattle.leg_design_records.specs.WellFormedParts.{IsKept}
 use Rattle.leg_design_records.specs.WellFormedNets.{IsWire, AreInOneNet}
-use Rattle.leg_design_common.proofs.Gives.{Gives, gives_none, gives_some, gives_bind, gives_skip, gives_if, unless_gives, none_from, name_gives, word_gives, until_gives, section_gives}
+use Rattle.leg_design_common.proofs.Gives.{Gives, gives_none, gives_some, gives_bind, gives_skip, gives_if, unless_gives, none_from, name_gives, word_gives, section_gives}
 use Rattle.leg_design_nets.proofs.ReadPaths.{AreWires}
 use Rattle.leg_design_nets.proofs.ReadWiring.{wiring_gives}
 use Rattle.leg_design_nets.proofs.ReadListed.{of_this_net}
@@ -97,8 +98,10 @@ module _ (known : KnownModel) (special : Bool) where
     net_gives nets statement =
         gives_skip (mark_at 45 statement) (λ dash.
         gives_bind (name_gives_new nets dash.1) (λ name new.
-        gives_bind (until_gives (AreTerminals known name.0 (nets ++ others)) at_no_terminal (terminal_form known special name.0 (nets ++ others)) (terminal_gives known special name.0 (nets ++ others)) [] name.1 (no_terminals known name.0 (nets ++ others))) (λ terminals are.
-        gives_bind (until_gives AreNetParts is_over (net_clause known special) net_clause_keeps no_net_parts terminals.1 (record { usage = tt; wires = All-nil (IsWire known.library known.vias special) })) (λ parts hold.
+        gives_bind (until_gives (AreTerminals known name.0 (nets ++ others)) at_no_terminal (terminal_form known special name.0 (nets ++ others))
+        (terminal_gives known special name.0 (nets ++ others)) [] name.1 (no_terminals known name.0 (nets ++ others))) (λ terminals are.
+        gives_bind (until_gives AreNetParts is_over (net_clause known special) net_clause_keeps no_net_parts terminals.1
+        (record { usage = tt; wires = All-nil (IsWire known.library known.vias special) })) (λ parts hold.
         gives_some _ (record {
           is = record { name = new.named; no_must_join = new.no_must_join; usage = hold.usage; terminals = are.each; once = are.once; wires = hold.wires };
           new = new.new;
@@ -123,7 +126,8 @@ module _ (known : KnownModel) (special : Bool) where
     still_one_net nets net before new a b t in_a in_b lists_a lists_b =
         ⊎_elim
         (λ old_a. ⊎_elim (λ old_b. before a b t old_a old_b lists_a lists_b) (λ new_b. named a b new_b old_a lists_a lists_b) (old_or_new nets net b in_b))
-        (λ new_a. ⊎_elim (λ old_b. sym (named b a new_a old_b lists_b lists_a)) (λ new_b. ap (λ (n : NetModel). n.name) (sym new_a ∙ new_b)) (old_or_new nets net b in_b))
+        (λ new_a. ⊎_elim (λ old_b. sym (named b a new_a old_b lists_b lists_a)) (λ new_b. ap (λ (n : NetModel). n.name) (sym new_a ∙ new_b))
+        (old_or_new nets net b in_b))
         (old_or_new nets net a in_a) where
           named : (old is : NetModel) → net ≡ is → Contains (nets ++ others) old → Contains old.terminals t → Contains is.terminals t → old.name ≡ is.name
           named old is same there lists lists_too =
@@ -131,9 +135,12 @@ module _ (known : KnownModel) (special : Bool) where
               let alone = All-contains (λ u. is_of_other_net net.name u (nets ++ others) ≡ false) net.terminals t new.alone listed in
               of_this_net net.name t (nets ++ others) old alone there lists ∙ ap (λ (n : NetModel). n.name) same
 
-    with_net : (nets : List NetModel) (net : NetModel) → AreEntries nets → nat_le ENTRY_LIMIT (length nets + length others) ≡ false → IsNewNet nets net → are_too_many others (nets ++ net ∷ []) ≡ false → AreEntries (nets ++ net ∷ [])
+    with_net : (nets : List NetModel) (net : NetModel) → AreEntries nets → nat_le ENTRY_LIMIT (length nets + length others) ≡ false → IsNewNet nets net
+        → are_too_many others (nets ++ net ∷ []) ≡ false → AreEntries (nets ++ net ∷ [])
     with_net nets net before room new few =
-        let parts = or_parts (nat_lt PART_LIMIT (terminal_count (nets ++ net ∷ []) + terminal_count others)) (nat_lt PART_LIMIT (wire_count (nets ++ net ∷ []) + wire_count others)) few in
+        let parts =
+        or_parts (nat_lt PART_LIMIT (terminal_count (nets ++ net ∷ []) + terminal_count others))
+        (nat_lt PART_LIMIT (wire_count (nets ++ net ∷ []) + wire_count others)) few in
         let wires = parts.1 in
         record {
           each = All-push IsKnownNet nets net before.each new.is;

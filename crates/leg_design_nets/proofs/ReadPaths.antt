@@ -61,7 +61,8 @@ either_given : (test : Bool) (a b : Option ℤ) → IsGiven a → IsGiven b → 
 either_given true a b first second = first
 either_given false a b first second = second
 
-extension_is : (special : Bool) (items : List Item) (at : PointModel) (given : Option ℤ) → All (IsItem special) items → IsGiven given → IsGiven (extension_at at given items)
+extension_is : (special : Bool) (items : List Item) (at : PointModel) (given : Option ℤ) → All (IsItem special) items → IsGiven given
+    → IsGiven (extension_at at given items)
 unfolding extension_at
 extension_is special [] at given each is = is
 extension_is special (ToPoint x y extension ∷ items) at given each is =
@@ -76,7 +77,8 @@ extension_is special (AtRect rect ∷ items) at given each is =
 
 same_spot : (p q : PointModel) → p ≡ q → is_same_spot p q ≡ true
 same_spot p q same =
-    and_from (int_eq p.x q.x) (int_eq p.y q.y) ((Decides-int_eq p.x q.x).1 (ap (λ (s : PointModel). s.x) same)) ((Decides-int_eq p.y q.y).1 (ap (λ (s : PointModel). s.y) same))
+    and_from (int_eq p.x q.x) (int_eq p.y q.y) ((Decides-int_eq p.x q.x).1 (ap (λ (s : PointModel). s.x) same))
+    ((Decides-int_eq p.y q.y).1 (ap (λ (s : PointModel). s.y) same))
 
 other_spot : (p q : PointModel) → is_same_spot p q ≡ false → p ≢ q
 other_spot p q other = λ same. true≢false (sym (same_spot p q same) ∙ other)
@@ -97,23 +99,27 @@ module _ (known : KnownModel) (special : Bool) where
     by true (Some width) is =
         gives_bind (unless_gives (int_eq width (pos 0))) (λ some other. gives_some width (is.0, above_zero width is.1 other, is.2))
 
-  default_is : (width : Option ℤ) (layer : ℕ) → IsWritten special width → default_extension known.library width layer ≡ default_extension known.library (written special) layer
+  default_is : (width : Option ℤ) (layer : ℕ) → IsWritten special width
+      → default_extension known.library width layer ≡ default_extension known.library (written special) layer
   unfolding default_extension
   default_is width layer is = by special width is where
-    by : (special : Bool) (width : Option ℤ) → IsWritten special width → default_extension known.library width layer ≡ default_extension known.library (written special) layer
+    by : (special : Bool) (width : Option ℤ) → IsWritten special width
+        → default_extension known.library width layer ≡ default_extension known.library (written special) layer
     by false None is = refl
     by false (Some width) is = absurd is
     by true None is = absurd is
     by true (Some width) is = refl
 
-  extension_holds : (width : Option ℤ) (layer : ℕ) (extension : Option ℤ) → IsWritten special width → IsGiven extension → IsExtension known.library special layer (unwrap_or extension (default_extension known.library width layer))
+  extension_holds : (width : Option ℤ) (layer : ℕ) (extension : Option ℤ) → IsWritten special width → IsGiven extension
+      → IsExtension known.library special layer (unwrap_or extension (default_extension known.library width layer))
   extension_holds width layer None is given = inr (default_is width layer is)
   extension_holds width layer (Some extension) is given = inl given
 
   find_gives : (test : Shape → Bool) (shapes : List Shape) → Gives (λ shape. test shape ≡ true) (find test shapes)
   find_gives test [] = gives_none
   find_gives test (shape ∷ shapes) = by (test shape) refl (find_gives test shapes) where
-    by : (here : Bool) → test shape ≡ here → Gives (λ shape. test shape ≡ true) (find test shapes) → Gives (λ shape. test shape ≡ true) (cond here (Some shape) (find test shapes))
+    by : (here : Bool) → test shape ≡ here → Gives (λ shape. test shape ≡ true) (find test shapes)
+        → Gives (λ shape. test shape ≡ true) (cond here (Some shape) (find test shapes))
     by true here rest = gives_some shape here
     by false there rest = rest
 
@@ -140,7 +146,9 @@ module _ (known : KnownModel) (special : Bool) where
   abbrev pub AreWires : List Wire → Type 0
   AreWires wires = All (IsWire known.library known.vias special) wires
 
-  segment_gives : (width : Option ℤ) → IsWritten special width → (layer : ℕ) (at : PointModel) (extension : Option ℤ) (to : PointModel) (there : Option ℤ) → is_routing known.library layer ≡ true → IsPosition at → IsPosition to → IsGiven extension → IsGiven there → is_same_spot at to ≡ false → Gives (IsWire known.library known.vias special) (segment_to known.library width layer at extension to there)
+  segment_gives : (width : Option ℤ) → IsWritten special width → (layer : ℕ) (at : PointModel) (extension : Option ℤ) (to : PointModel) (there : Option ℤ)
+      → is_routing known.library layer ≡ true → IsPosition at → IsPosition to → IsGiven extension → IsGiven there → is_same_spot at to ≡ false
+      → Gives (IsWire known.library known.vias special) (segment_to known.library width layer at extension to there)
   unfolding segment_to
   segment_gives width is layer at extension to there routes position end given further other =
       gives_bind (when_gives (is_straight at to)) (λ straight is_straight_.
@@ -156,7 +164,9 @@ module _ (known : KnownModel) (special : Bool) where
         to_extension = extension_holds width layer there is further;
       })))
 
-  pub wires_give : (width : Option ℤ) → IsWritten special width → (items : List Item) (layer : ℕ) (at : PointModel) (extension : Option ℤ) → is_routing known.library layer ≡ true → IsPosition at → IsGiven extension → All (IsItem special) items → Gives AreWires (wires_from known width layer at extension items)
+  pub wires_give : (width : Option ℤ) → IsWritten special width → (items : List Item) (layer : ℕ) (at : PointModel) (extension : Option ℤ)
+      → is_routing known.library layer ≡ true → IsPosition at → IsGiven extension → All (IsItem special) items
+      → Gives AreWires (wires_from known width layer at extension items)
   unfolding wires_from
   wires_give width is [] layer at extension routes position given each = gives_some [] (All-nil (IsWire known.library known.vias special))
   wires_give width is (ToPoint x y next ∷ items) layer at extension routes position given each =
@@ -165,7 +175,8 @@ module _ (known : KnownModel) (special : Bool) where
       let there = next_is at x y position item.0 item.1 in
       let further = extension_is special items (next_spot at x y) next rest item.2 in
       gives_choice (is_same_spot at (next_spot at x y)) (λ same. wires_give width is items layer at extension routes position given rest) (λ other.
-      gives_bind (segment_gives width is layer at extension (next_spot at x y) (extension_at (next_spot at x y) next items) routes position there given further other) (λ segment spelled.
+      gives_bind (segment_gives width is layer at extension (next_spot at x y)
+      (extension_at (next_spot at x y) next items) routes position there given further other) (λ segment spelled.
       gives_bind (wires_give width is items layer (next_spot at x y) (extension_at (next_spot at x y) next items) routes there further rest) (λ wires are.
       gives_some _ (All-cons (IsWire known.library known.vias special) segment wires spelled are))))
   wires_give width is (AtVia via ∷ items) layer at extension routes position given each =
@@ -177,6 +188,8 @@ module _ (known : KnownModel) (special : Bool) where
       gives_bind (wires_give width is items layer at extension routes position given (All-tail (IsItem special) (AtRect rect) items each)) (λ wires are.
       gives_some _ (All-cons (IsWire known.library known.vias special) (Patch layer at rect) wires (item.0, routes, position, item.1) are))
 
-  pub path_gives : (width : Option ℤ) (layer : ℕ) (first : PointModel) (given : Option ℤ) (items : List Item) → IsWritten special width → is_routing known.library layer ≡ true → IsPosition first → IsGiven given → All (IsItem special) items → Gives AreWires (path_wires known width layer first given items)
+  pub path_gives : (width : Option ℤ) (layer : ℕ) (first : PointModel) (given : Option ℤ) (items : List Item) → IsWritten special width
+      → is_routing known.library layer ≡ true → IsPosition first → IsGiven given → All (IsItem special) items
+      → Gives AreWires (path_wires known width layer first given items)
   path_gives width layer first given items is routes position is_given each =
       wires_give width is items layer first (extension_at first given items) routes position (extension_is special items first given each is_given) each

@@ -4,8 +4,9 @@ use Rattle.std.proofs.lemmas.List.Elements.{All-nil, All-cons, All-push}
 use Rattle.std.proofs.lemmas.List.Quantifiers.{all_pairs_push}
 use Rattle.leg_lex.specs.Words.{Words, is_keyword, is_at, mark_at, name_at}
 use Rattle.leg_lex.specs.NameLookup.{place_of}
+use Rattle.leg_lex.proofs.GivesAll.{named_gives_within}
 use Rattle.leg_lib_records.specs.Records as library
-use Rattle.leg_lib_records.specs.Records.{LibraryModel, MasterModel}
+use Rattle.leg_lib_records.specs.Records.{MasterModel}
 use Rattle.leg_design_records.specs.declared.records.Component.{Component}
 use Rattle.leg_design_records.specs.declared.records.Terminal.{Terminal}
 use Rattle.leg_design_records.specs.declared.records.Terminal.TheVariants.{Comp, Pin}
@@ -13,7 +14,7 @@ use Rattle.leg_grammar.specs.Def.Namespace.{KnownModel}
 use Rattle.leg_design_records.specs.Records.{PinModel, NetModel, component_names}
 use Rattle.leg_design_records.specs.Terminals.{is_among}
 use Rattle.leg_grammar.specs.Def.Terminal.{pin_of_component, with_pin, pins_of_all, component_terminal, pin_terminal, one_terminal_at, all_terminals_at, past_synthesized, terminals_at, is_of_other_net, add_terminal, terminal_form}
-use Rattle.leg_design_common.proofs.Gives.{Gives, gives_none, gives_some, gives_bind, gives_skip, gives_choice, gives_if, gives_itself, named_gives_within, each_gives}
+use Rattle.leg_design_common.proofs.Gives.{Gives, gives_none, gives_some, gives_bind, gives_skip, gives_choice, gives_if, gives_itself, each_gives}
 use Rattle.leg_design_nets.proofs.ReadListed.{not_among}
 
 module _ (known : KnownModel) where
@@ -64,7 +65,8 @@ module _ (known : KnownModel) where
       gives_bind (gives_if (is_keyword (codes "PIN") of_component.0) (pin_gives name.0) (component_gives of_component.0 name.0)) (λ terminal is.
       gives_some _ (All-cons IsKnownTerminal terminal [] is (All-nil IsKnownTerminal)))))
 
-  with_pin_known : (c : ℕ) (component : Component) (name : List ℕ) (terminals : List Terminal) → slice_get known.components c ≡ Some component → AreKnown terminals → AreKnown (with_pin c (pin_of_component known.library component name) terminals)
+  with_pin_known : (c : ℕ) (component : Component) (name : List ℕ) (terminals : List Terminal) → slice_get known.components c ≡ Some component
+      → AreKnown terminals → AreKnown (with_pin c (pin_of_component known.library component name) terminals)
   with_pin_known c component name terminals there each = by (pin_of_component known.library component name) refl where
     by : (pin : Option ℕ) → pin_of_component known.library component name ≡ pin → AreKnown (with_pin c pin terminals)
     by None is = each
@@ -84,7 +86,8 @@ module _ (known : KnownModel) where
       let later : StandFrom (suc c) components = λ i x is.
       let next : c + suc i ≡ suc c + i = omega arith in
       rw (← next) (stand (suc i) x is) in
-      with_pin_known c component name (pins_of_all known.library name (suc c) components) (rw first at (stand 0 component refl)) (all_known name (suc c) components later)
+      with_pin_known c component name (pins_of_all known.library name (suc c) components) (rw first at (stand 0 component refl))
+      (all_known name (suc c) components later)
 
   all_give : (words : Words) → Gives (λ said. AreKnown said.0) (all_terminals_at known words)
   unfolding all_terminals_at
@@ -108,7 +111,8 @@ module _ (known : KnownModel) where
     pub once : AllPairs (λ t u. t ≢ u) terminals
     pub alone : All (λ t. is_of_other_net name t nets ≡ false) terminals
 
-  add_gives : (name : List ℕ) (nets : List NetModel) (terminals : List Terminal) (t : Terminal) → AreTerminals name nets terminals → IsKnownTerminal t → Gives (AreTerminals name nets) (add_terminal name nets terminals t)
+  add_gives : (name : List ℕ) (nets : List NetModel) (terminals : List Terminal) (t : Terminal) → AreTerminals name nets terminals → IsKnownTerminal t
+      → Gives (AreTerminals name nets) (add_terminal name nets terminals t)
   unfolding add_terminal
   add_gives name nets terminals t before is =
       gives_choice (is_of_other_net name t nets) (λ elsewhere. gives_none) (λ alone.
@@ -126,7 +130,8 @@ module _ (known : KnownModel) where
     alone = All-nil (λ t. is_of_other_net name t nets ≡ false);
   }
 
-  pub terminal_gives : (special : Bool) (name : List ℕ) (nets : List NetModel) (terminals : List Terminal) (words : Words) → AreTerminals name nets terminals → Gives (λ said. AreTerminals name nets said.0) (terminal_form known special name nets terminals words)
+  pub terminal_gives : (special : Bool) (name : List ℕ) (nets : List NetModel) (terminals : List Terminal) (words : Words) → AreTerminals name nets terminals
+      → Gives (λ said. AreTerminals name nets said.0) (terminal_form known special name nets terminals words)
   unfolding terminal_form
   terminal_gives special name nets terminals words before =
       gives_bind (terminals_give special words) (λ said each.

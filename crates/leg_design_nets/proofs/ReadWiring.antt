@@ -1,11 +1,12 @@
 -- The wires that wiring says are such as a DEF can spell.
-use Rattle.std.proofs.Common.{◌≡◌, ℤ, pos, ◌≤ℤ◌, Bool, true, false, not, ◌&&◌, int_lt, List, [], All, Option, Some, codes, refl, sym, arith}
-use Rattle.std.proofs.lemmas.Int.{ints}
+use Rattle.std.proofs.Common.{◌≡◌, ℤ, pos, ◌≤ℤ◌, Bool, true, false, not, ◌&&◌, int_lt, List, [], All, Option, Some, codes, refl, sym}
 use Rattle.std.proofs.lemmas.List.Elements.{All-nil, All-push, All-append}
+use Rattle.leg_lemmas.proofs.Integers.{least_from_test}
 use Rattle.leg_lex.specs.Words.{Words, is_at, keyword_at, mark_at, name_at}
 use Rattle.leg_lex.specs.Until.{until}
 use Rattle.leg_lex.specs.Number.{IsNumber}
 use Rattle.leg_lex.specs.NameLookup.{place_of}
+use Rattle.leg_lex.proofs.GivesAll.{until_gives}
 use Rattle.leg_geom.specs.Plane.{PointModel}
 use Rattle.leg_lib_records.specs.Joins.{is_wiring_word}
 use Rattle.leg_lib_records.specs.Records.{layer_names}
@@ -20,19 +21,16 @@ use Rattle.leg_grammar.specs.Def.Wiring.{routing_at, past_taper, written_width_a
 use Rattle.leg_design_records.specs.Wires.{is_even}
 use Rattle.leg_design_records.specs.WellFormedParts.{IsPosition}
 use Rattle.leg_design_records.specs.WellFormedNets.{IsWire}
-use Rattle.leg_design_common.proofs.Gives.{Gives, gives_some, gives_bind, gives_skip, gives_choice, gives_if, when_gives, unless_gives, until_gives}
+use Rattle.leg_design_common.proofs.Gives.{Gives, gives_some, gives_bind, gives_skip, gives_choice, gives_if, when_gives, unless_gives}
 use Rattle.leg_design_common.proofs.ReadPlacement.{whole_gives, between_gives}
 use Rattle.leg_design_nets.proofs.ReadPaths.{IsGiven, IsNumberIfAny, IsItem, IsWritten, AreWires, path_gives}
-
-least_is : (z : ℤ) → int_lt z (pos 0) ≡ false → pos 0 ≤ℤ z
-least_is z other = grind (arith, ints)
 
 count_gives : (words : Words) → Gives (λ said. IsNumber said.0 × (pos 0 ≤ℤ said.0)) (count_at words)
 unfolding count_at
 count_gives words =
     gives_bind (whole_gives words) (λ z number.
     gives_bind (unless_gives (int_lt z.0 (pos 0))) (λ some least.
-    gives_some _ (number, least_is z.0 least)))
+    gives_some _ (number, least_from_test z.0 (pos 0) least)))
 
 coordinate_gives : (words : Words) → Gives (λ said. IsNumberIfAny said.0) (coordinate_at words)
 unfolding coordinate_at
@@ -81,7 +79,8 @@ module _ (known : KnownModel) (special : Bool) where
       gives_bind (whole_gives b.1) (λ c c_is.
       gives_bind (whole_gives c.1) (λ d d_is.
       gives_skip (mark_at 41 d.1) (λ close.
-      gives_bind (between_gives (record { x = a.0; y = b.0 }) (record { x = c.0; y = d.0 }) (record { x = a_is; y = b_is }) (record { x = c_is; y = d_is })) (λ rect area.
+      gives_bind (between_gives (record { x = a.0; y = b.0 }) (record { x = c.0; y = d.0 }) (record { x = a_is; y = b_is }) (record { x = c_is; y = d_is }))
+      (λ rect area.
       gives_some _ (in_nets, area)))))))))
 
   via_item_gives : (words : Words) → Gives (λ said. IsItem special said.0) (via_item known words)
@@ -146,7 +145,8 @@ module _ (known : KnownModel) (special : Bool) where
       gives_bind (path_gives known special written.0 layer.0 first.0.0 first.0.1 items.0 is_written routes starts.0 starts.1 each) (λ wires are.
       gives_some _ are)))))
 
-  new_path_gives : (wires : List Wire) (words : Words) → AreWires known special wires → Gives (λ said. AreWires known special said.0) (new_path known special wires words)
+  new_path_gives : (wires : List Wire) (words : Words) → AreWires known special wires
+      → Gives (λ said. AreWires known special said.0) (new_path known special wires words)
   unfolding new_path
   new_path_gives wires words are =
       gives_skip (keyword_at (codes "NEW") words) (λ start.

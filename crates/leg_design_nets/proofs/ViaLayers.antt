@@ -10,11 +10,14 @@ use Rattle.leg_grammar.specs.Def.Namespace.{KnownModel, via_numbered}
 use Rattle.leg_grammar.specs.Def.Path.{other_layer, across}
 
 -- The shape lies on another routing layer.
-pub other_here : (library : LibraryModel) (layer : ℕ) (shapes : List Shape) (i : ℕ) (shape : Shape) → i < length shapes → shape ≡ get_or shapes i shape → is_routing library shape.layer ≡ true → (shape.layer == layer) ≡ false → other_layer library layer (drop i shapes) ≡ Some shape.layer
+pub other_here : (library : LibraryModel) (layer : ℕ) (shapes : List Shape) (i : ℕ) (shape : Shape) → i < length shapes → shape ≡ get_or shapes i shape
+    → is_routing library shape.layer ≡ true → (shape.layer == layer) ≡ false → other_layer library layer (drop i shapes) ≡ Some shape.layer
 other_here library layer shapes i shape less is routes apart = rw (at_front shapes i shape less is, routes, apart) refl
 
 -- The shape doesn't.
-pub other_later : (library : LibraryModel) (layer : ℕ) (shapes : List Shape) (i : ℕ) (shape : Shape) → i < length shapes → shape ≡ get_or shapes i shape → (is_routing library shape.layer && not (shape.layer == layer)) ≡ false → other_layer library layer (drop i shapes) ≡ other_layer library layer (drop (i + 1) shapes)
+pub other_later : (library : LibraryModel) (layer : ℕ) (shapes : List Shape) (i : ℕ) (shape : Shape) → i < length shapes → shape ≡ get_or shapes i shape
+    → (is_routing library shape.layer && not (shape.layer == layer)) ≡ false
+    → other_layer library layer (drop i shapes) ≡ other_layer library layer (drop (i + 1) shapes)
 other_later library layer shapes i shape less is other = rw (at_front shapes i shape less is, other) refl
 
 -- No shape is left.
@@ -22,7 +25,8 @@ pub other_nowhere : (library : LibraryModel) (layer : ℕ) (shapes : List Shape)
 other_nowhere library layer shapes i past = rw (drop_all i shapes past) refl
 
 -- a good via without a shape on the layer
-pub across_lacks : (known : KnownModel) (number layer : ℕ) (via : ViaModel) → via_numbered known number ≡ Some via → list_any (λ shape. shape.layer == layer) via.shapes ≡ false → across known number layer ≡ None
+pub across_lacks : (known : KnownModel) (number layer : ℕ) (via : ViaModel) → via_numbered known number ≡ Some via
+    → list_any (λ shape. shape.layer == layer) via.shapes ≡ false → across known number layer ≡ None
 unfolding across
 across_lacks known number layer via is lacks = by via.good refl where
   by : (good : Bool) → via.good ≡ good → across known number layer ≡ None
@@ -30,6 +34,7 @@ across_lacks known number layer via is lacks = by via.good refl where
   by false good = rw (is, good) refl
 
 -- a good via with one
-pub across_is : (known : KnownModel) (number layer : ℕ) (via : ViaModel) → via_numbered known number ≡ Some via → via.good ≡ true → list_any (λ shape. shape.layer == layer) via.shapes ≡ true → across known number layer ≡ other_layer known.library layer via.shapes
+pub across_is : (known : KnownModel) (number layer : ℕ) (via : ViaModel) → via_numbered known number ≡ Some via → via.good ≡ true
+    → list_any (λ shape. shape.layer == layer) via.shapes ≡ true → across known number layer ≡ other_layer known.library layer via.shapes
 unfolding across
 across_is known number layer via is good has = rw (is, good, has) refl

@@ -17,7 +17,8 @@ the_rest : (items : List Item) (i : ℕ) → take (length items - i) (drop i ite
 the_rest items i = rw (← length-drop i items) (take-length (drop i items))
 
 -- one wire before the others
-one_before : (wires : List Wire) (wire : Wire) (others : Option (List Wire)) → option_map (λ last. wires ++ last) (others >>= λ last. Some (wire ∷ last)) ≡ option_map (λ last. (wires ++ wire ∷ []) ++ last) others
+one_before : (wires : List Wire) (wire : Wire) (others : Option (List Wire))
+    → option_map (λ last. wires ++ last) (others >>= λ last. Some (wire ∷ last)) ≡ option_map (λ last. (wires ++ wire ∷ []) ++ last) others
 one_before wires wire None = refl
 one_before wires wire (Some last) = ap Some (sym (append_assoc wires (wire ∷ []) last))
 
@@ -31,25 +32,33 @@ module _ (known : KnownModel) (written : Option ℤ) where
   after_segment walk to given later wire = record { layer = walk.layer; at = to; extension = extension_at to given later; wires = walk.wires ++ wire ∷ [] }
 
   -- the same point again
-  point_same : (walk : Walked) (x y given : Option ℤ) (later : List Item) → is_same_spot walk.at (next_spot walk.at x y) ≡ true → wires_with known written walk (ToPoint x y given ∷ later) ≡ wires_with known written walk later
+  point_same : (walk : Walked) (x y given : Option ℤ) (later : List Item) → is_same_spot walk.at (next_spot walk.at x y) ≡ true
+      → wires_with known written walk (ToPoint x y given ∷ later) ≡ wires_with known written walk later
   unfolding wires_from
   point_same walk x y given later same = rw same refl
 
   -- another point
-  point_made : (walk : Walked) (x y given : Option ℤ) (later : List Item) (wire : Wire) → is_same_spot walk.at (next_spot walk.at x y) ≡ false → segment_then walk (next_spot walk.at x y) given later ≡ Some wire → wires_with known written walk (ToPoint x y given ∷ later) ≡ wires_with known written (after_segment walk (next_spot walk.at x y) given later wire) later
+  point_made : (walk : Walked) (x y given : Option ℤ) (later : List Item) (wire : Wire) → is_same_spot walk.at (next_spot walk.at x y) ≡ false
+      → segment_then walk (next_spot walk.at x y) given later ≡ Some wire
+      → wires_with known written walk (ToPoint x y given ∷ later) ≡ wires_with known written (after_segment walk (next_spot walk.at x y) given later wire) later
   unfolding wires_from
-  point_made walk x y given later wire apart made = rw (apart, made) (one_before walk.wires wire (wires_from known written walk.layer (next_spot walk.at x y) (extension_at (next_spot walk.at x y) given later) later))
+  point_made walk x y given later wire apart made =
+      rw (apart, made) (one_before walk.wires wire (wires_from known written walk.layer (next_spot walk.at x y)
+      (extension_at (next_spot walk.at x y) given later) later))
 
   -- another point, to which no segment leads
-  point_stuck : (walk : Walked) (x y given : Option ℤ) (later : List Item) → is_same_spot walk.at (next_spot walk.at x y) ≡ false → segment_then walk (next_spot walk.at x y) given later ≡ None → wires_with known written walk (ToPoint x y given ∷ later) ≡ None
+  point_stuck : (walk : Walked) (x y given : Option ℤ) (later : List Item) → is_same_spot walk.at (next_spot walk.at x y) ≡ false
+      → segment_then walk (next_spot walk.at x y) given later ≡ None → wires_with known written walk (ToPoint x y given ∷ later) ≡ None
   unfolding wires_from
   point_stuck walk x y given later apart none = rw (apart, none) refl
 
   -- the wires after an item, if it can be passed
   abbrev Onwards : Walked → Item → List Item → Type 0
-  Onwards walk item later = wires_with known written walk (item ∷ later) ≡ (walked_past known written item later walk >>= λ next. wires_with known written next later)
+  Onwards walk item later =
+      wires_with known written walk (item ∷ later) ≡ (walked_past known written item later walk >>= λ next. wires_with known written next later)
 
-  past_point : (walk : Walked) (x y given : Option ℤ) (later : List Item) (same : Bool) → is_same_spot walk.at (next_spot walk.at x y) ≡ same → (said : Option Wire) → segment_then walk (next_spot walk.at x y) given later ≡ said → Onwards walk (ToPoint x y given) later
+  past_point : (walk : Walked) (x y given : Option ℤ) (later : List Item) (same : Bool) → is_same_spot walk.at (next_spot walk.at x y) ≡ same
+      → (said : Option Wire) → segment_then walk (next_spot walk.at x y) given later ≡ said → Onwards walk (ToPoint x y given) later
   unfolding walked_past walked_to
   past_point walk x y given later true same said is = point_same walk x y given later same ∙ rw same refl
   past_point walk x y given later false apart None is = point_stuck walk x y given later apart is ∙ rw (apart, is) refl
@@ -69,22 +78,30 @@ module _ (known : KnownModel) (written : Option ℤ) where
   past_item walk (AtVia via) later = past_via walk via later _ refl
   past_item walk (AtRect rect) later = past_rect walk rect later
 
-at_front : (items : List Item) (i : ℕ) (item : Item) → i < length items → item ≡ get_or items i item → drop i items ≡ item ∷ take (length items - (i + 1)) (drop (i + 1) items)
-at_front items i item less is = drop_more items i item less ∙ ap (λ y. y ∷ drop (i + 1) items) (sym is) ∙ ap (λ rest. item ∷ rest) (sym (the_rest items (i + 1)))
+at_front : (items : List Item) (i : ℕ) (item : Item) → i < length items → item ≡ get_or items i item
+    → drop i items ≡ item ∷ take (length items - (i + 1)) (drop (i + 1) items)
+at_front items i item less is =
+    drop_more items i item less ∙ ap (λ y. y ∷ drop (i + 1) items) (sym is) ∙ ap (λ rest. item ∷ rest) (sym (the_rest items (i + 1)))
 
 -- The path is followed past one more item.
-pub walk_on : (known : KnownModel) (written : Option ℤ) (walk next : Walked) (items : List Item) (i : ℕ) (item : Item) → i < length items → item ≡ get_or items i item → walked_past known written item (take (length items - (i + 1)) (drop (i + 1) items)) walk ≡ Some next → wires_with known written walk (drop i items) ≡ wires_with known written next (drop (i + 1) items)
+pub walk_on : (known : KnownModel) (written : Option ℤ) (walk next : Walked) (items : List Item) (i : ℕ) (item : Item) → i < length items
+    → item ≡ get_or items i item → walked_past known written item (take (length items - (i + 1)) (drop (i + 1) items)) walk ≡ Some next
+    → wires_with known written walk (drop i items) ≡ wires_with known written next (drop (i + 1) items)
 walk_on known written walk next items i item less is said =
     let later = take (length items - (i + 1)) (drop (i + 1) items) in
-    ap (wires_with known written walk) (at_front items i item less is) ∙ past_item known written walk item later ∙ rw said (ap (wires_with known written next) (the_rest items (i + 1)))
+    ap (wires_with known written walk) (at_front items i item less is) ∙ past_item known written walk item later
+    ∙ rw said (ap (wires_with known written next) (the_rest items (i + 1)))
 
 -- The item can't be passed.
-pub walk_fails : (known : KnownModel) (written : Option ℤ) (walk : Walked) (items : List Item) (i : ℕ) (item : Item) → i < length items → item ≡ get_or items i item → walked_past known written item (take (length items - (i + 1)) (drop (i + 1) items)) walk ≡ None → wires_with known written walk (drop i items) ≡ None
+pub walk_fails : (known : KnownModel) (written : Option ℤ) (walk : Walked) (items : List Item) (i : ℕ) (item : Item) → i < length items
+    → item ≡ get_or items i item → walked_past known written item (take (length items - (i + 1)) (drop (i + 1) items)) walk ≡ None
+    → wires_with known written walk (drop i items) ≡ None
 walk_fails known written walk items i item less is said =
     let later = take (length items - (i + 1)) (drop (i + 1) items) in
     ap (wires_with known written walk) (at_front items i item less is) ∙ past_item known written walk item later ∙ rw said refl
 
 -- No item is left.
-pub walk_ends : (known : KnownModel) (written : Option ℤ) (walk : Walked) (items : List Item) (i : ℕ) → length items ≤ i → wires_with known written walk (drop i items) ≡ Some walk.wires
+pub walk_ends : (known : KnownModel) (written : Option ℤ) (walk : Walked) (items : List Item) (i : ℕ) → length items ≤ i
+    → wires_with known written walk (drop i items) ≡ Some walk.wires
 unfolding wires_from
 walk_ends known written walk items i past = rw (drop_all i items past) (ap Some (append-nil walk.wires))

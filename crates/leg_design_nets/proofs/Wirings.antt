@@ -74,7 +74,8 @@ new_path_shortens known special wires words =
     below_bind (omega arith) (path_below known special start.1) (λ path last.
     below_some (wires ++ path.0) path.1 last))
 
-pub new_path_shorter : (known : KnownModel) (special : Bool) (wires next : List Wire) (words rest : Words) → new_path known special wires words ≡ Some (next, rest) → length rest < length words
+pub new_path_shorter : (known : KnownModel) (special : Bool) (wires next : List Wire) (words rest : Words)
+    → new_path known special wires words ≡ Some (next, rest) → length rest < length words
 new_path_shorter known special wires next words rest said = (new_path_shortens known special wires words).left next rest said
 
 paths_below : (known : KnownModel) (special : Bool) (words : Words) → Below (length words) (paths_at known special words)

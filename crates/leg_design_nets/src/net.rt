@@ -58,7 +58,7 @@ fn is_left_out(special: bool, clause: &Cursor<'_, '_>) -> bool
 }
 
 /// Reads past the words up to the next `+`.
-#[tactic(auto, using(crate::proofs::NetClauses::from_plus_on, crate::proofs::NetClauses::from_plus_here, crate::proofs::NetClauses::from_plus_all, crate::proofs::NetClauses::surely_next, crate::proofs::NetClauses::next_shorter))]
+#[tactic(auto, using(crate::proofs::NetClauses::from_plus_on, crate::proofs::NetClauses::from_plus_here, crate::proofs::NetClauses::from_plus_all, crate::proofs::NetClauses::surely_next, leg_lex::proofs::ReadPast::next_shorter))]
 fn from_plus(words: &mut Cursor<'_, '_>) -> Result<(), ReadFault>
     ensures { Reads (λ x. x) result words.new (Some (tt, from_plus words.old)) }
 {

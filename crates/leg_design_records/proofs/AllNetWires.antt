@@ -20,8 +20,18 @@ all_wired design lists = record design { nets = with_more_wires design.nets list
 
 all_alike : (nets special : List NetModel) (lists : List (List Wire)) → AreAlike (nets ++ special) (with_more_wires nets lists ++ special)
 all_alike nets special lists = record {
-  names = rw (map-append (λ (n : NetModel). n.name) nets special, map-append (λ (n : NetModel). n.name) (with_more_wires nets lists) special, each_with_map wired (λ (n : NetModel). n.name) (λ net wires. refl) nets lists) refl;
-  terminals = rw (map-append (λ (n : NetModel). n.terminals) nets special, map-append (λ (n : NetModel). n.terminals) (with_more_wires nets lists) special, each_with_map wired (λ (n : NetModel). n.terminals) (λ net wires. refl) nets lists) refl;
+  names = rw (
+    map-append (λ (n : NetModel). n.name) nets special,
+    map-append (λ (n : NetModel). n.name)
+        (with_more_wires nets lists) special,
+    each_with_map wired (λ (n : NetModel). n.name) (λ net wires. refl) nets lists,
+  ) refl;
+  terminals = rw (
+    map-append (λ (n : NetModel). n.terminals) nets special,
+    map-append (λ (n : NetModel). n.terminals)
+        (with_more_wires nets lists) special,
+    each_with_map wired (λ (n : NetModel). n.terminals) (λ net wires. refl) nets lists,
+  ) refl;
 }
 
 same_terminal_count : (nets : List NetModel) (lists : List (List Wire)) → terminal_count (with_more_wires nets lists) ≡ terminal_count nets
@@ -31,7 +41,8 @@ same_terminal_count (net ∷ nets) [] = refl
 same_terminal_count (net ∷ nets) (wires ∷ lists) = ap (λ count. length net.terminals + count) (same_terminal_count nets lists)
 
 -- an entry that got wires is one that DEF can spell
-wired_net : (design : DesignModel) (net : NetModel) (wires : List Wire) → All (IsWire design.library design.vias false) wires → IsNet design false net → IsNet design false (wired net wires)
+wired_net : (design : DesignModel) (net : NetModel) (wires : List Wire) → All (IsWire design.library design.vias false) wires → IsNet design false net
+    → IsNet design false (wired net wires)
 wired_net design net wires spelled was = record {
   name = was.name;
   no_must_join = was.no_must_join;
@@ -53,7 +64,8 @@ all_nets design (net ∷ nets) (wires ∷ lists) spelled each =
     (wired_net design net wires spelled_here (All-head (IsNet design false) net nets each))
     (all_nets design nets lists spelled_later (All-tail (IsNet design false) net nets each))
 
-terminal_kept : (design : DesignModel) (lists : List (List Wire)) (terminal : Terminal) → IsTerminal design terminal → IsTerminal (all_wired design lists) terminal
+terminal_kept : (design : DesignModel) (lists : List (List Wire)) (terminal : Terminal) → IsTerminal design terminal
+    → IsTerminal (all_wired design lists) terminal
 terminal_kept design lists (Pin p) proper = proper
 terminal_kept design lists (Comp c k) proper = proper
 
@@ -77,7 +89,8 @@ all_nets_stay design lists may proper =
     let alike = all_alike design.nets design.special lists in
     record {
       nets = record {
-        each = All-weaker (IsNet design false) (IsNet after false) (net_kept design after keeps false) after.nets (all_nets design design.nets lists may.spelled proper.nets.each);
+        each = All-weaker (IsNet design false) (IsNet after false) (net_kept design after keeps false) after.nets
+            (all_nets design design.nets lists may.spelled proper.nets.each);
         apart = subst AreApart (sym (each_with_map wired (λ (n : NetModel). n.name) (λ net wires. refl) design.nets lists)) proper.nets.apart;
       };
       special = record {
@@ -91,7 +104,8 @@ all_nets_stay design lists may proper =
       few_wires = may.few;
     }
 
-pub all_stay_well_formed : (design : DesignModel) (lists : List (List Wire)) → MayAllGet design lists → IsWellFormed design → IsWellFormed (all_wired design lists)
+pub all_stay_well_formed : (design : DesignModel) (lists : List (List Wire)) → MayAllGet design lists → IsWellFormed design
+    → IsWellFormed (all_wired design lists)
 all_stay_well_formed design lists may proper = record {
   name = proper.name;
   divider = proper.divider;

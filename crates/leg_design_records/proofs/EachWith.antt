@@ -1,6 +1,5 @@
 -- Lists whose elements change one by one.
-use Rattle.std.proofs.Common.{◌≡◌, ℕ, suc, ◌<◌, List, [], ◌∷◌, ◌++◌, length, take, map, set, get_or, Result, Ok, Err, ap, refl, ◌∙◌, arith}
-use Rattle.std.specs.Result.{OnErr}
+use Rattle.std.proofs.Common.{◌≡◌, ℕ, suc, ◌<◌, List, [], ◌∷◌, ◌++◌, length, take, map, set, get_or, ap, refl, ◌∙◌, arith}
 use Rattle.std.proofs.lemmas.List.{set-get_or}
 use Rattle.std.proofs.Math.Seq.{take-length, take-append_seam}
 use Rattle.leg_design_records.specs.Records.{NetModel}
@@ -29,14 +28,16 @@ each_with_push f (x ∷ xs) (z ∷ ys) y d within =
     ap (λ rest. f x z ∷ rest) (each_with_push f xs ys y d (omega (arith, within)))
 
 -- what no change touches stays
-pub each_with_map : {X Y Z : Type 0} (f : X → Y → X) (g : X → Z) → ((x : X) (y : Y) → g (f x y) ≡ g x) → (xs : List X) (ys : List Y) → map g (each_with f xs ys) ≡ map g xs
+pub each_with_map : {X Y Z : Type 0} (f : X → Y → X) (g : X → Z) → ((x : X) (y : Y) → g (f x y) ≡ g x) → (xs : List X) (ys : List Y)
+    → map g (each_with f xs ys) ≡ map g xs
 unfolding each_with
 each_with_map f g same [] ys = refl
 each_with_map f g same (x ∷ xs) [] = refl
 each_with_map f g same (x ∷ xs) (y ∷ ys) = rw (same x y, each_with_map f g same xs ys) refl
 
 -- entries that got wires, and then keep as many as they had
-pub first_wires_back : (nets : List NetModel) (lists : List (List Wire)) → with_first_wires (with_more_wires nets lists) (map (λ (net : NetModel). length net.wires) nets) ≡ nets
+pub first_wires_back : (nets : List NetModel) (lists : List (List Wire))
+    → with_first_wires (with_more_wires nets lists) (map (λ (net : NetModel). length net.wires) nets) ≡ nets
 unfolding each_with
 first_wires_back [] lists = refl
 first_wires_back (net ∷ nets) [] =
@@ -52,20 +53,29 @@ pub one_more_list : (old now : List NetModel) (lists : List (List Wire)) (n : �
     → now ≡ with_more_wires old lists → n ≡ length lists → n < length old → net ≡ get_or now n net → changed ≡ record net { wires = net.wires ++ wires }
     → set now n changed ≡ with_more_wires old (lists ++ wires ∷ [])
 one_more_list old now lists n net changed wires is so_many within there same =
-    rw (same, there, is, so_many, each_with_push (λ (net : NetModel) (more : List Wire). record net { wires = net.wires ++ more }) old lists wires net (rw so_many at within)) refl
+    rw (
+      same,
+      there,
+      is,
+      so_many,
+      each_with_push (λ (net : NetModel) (more : List Wire). record net { wires = net.wires ++ more }) old lists wires net
+          (rw so_many at within),
+    ) refl
 
 -- an entry that keeps its wires is as it was
 pub same_entry : (now : List NetModel) (n : ℕ) (net changed : NetModel) → net ≡ get_or now n net → changed ≡ net → set now n changed ≡ now
 same_entry now n net changed there same = rw same (ap (set now n) there ∙ set-get_or now n net)
-
--- what holds anyway holds on a refusal
-pub on_err_anyway : {T E P : Type 0} (r : Result T E) → P → OnErr r P
-on_err_anyway (Ok done) holds = tt
-on_err_anyway (Err refusal) holds = holds
 
 -- an entry more has so many wires
 pub one_more_count : (old now : List NetModel) (counts : List ℕ) (n : ℕ) (net changed : NetModel) (count : ℕ)
     → now ≡ with_first_wires old counts → n ≡ length counts → n < length old → net ≡ get_or now n net → changed ≡ record net { wires = take count net.wires }
     → set now n changed ≡ with_first_wires old (counts ++ count ∷ [])
 one_more_count old now counts n net changed count is so_many within there same =
-    rw (same, there, is, so_many, each_with_push (λ (net : NetModel) (many : ℕ). record net { wires = take many net.wires }) old counts count net (rw so_many at within)) refl
+    rw (
+      same,
+      there,
+      is,
+      so_many,
+      each_with_push (λ (net : NetModel) (many : ℕ). record net { wires = take many net.wires }) old counts count net
+          (rw so_many at within),
+    ) refl

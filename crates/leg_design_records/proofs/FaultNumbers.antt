@@ -3,7 +3,7 @@ use Rattle.std.proofs.Common.{◌≡◌, ℕ, ◌<◌, List, [], ◌∷◌, Some
 use Rattle.std.proofs.lemmas.Option.{same_Some}
 use Rattle.leg_design_records.specs.declared.fault.Fault.{Fault}
 use Rattle.leg_design_records.specs.declared.fault.Fault.TheVariants.{Unplaced, Outside, OffSite, Overlap, Blocked, Short, TooNear, OpenNet}
-use Rattle.leg_design_records.specs.Violation.{kind_number, numbers_of}
+use Rattle.leg_design_records.specs.Violation.{kind_number, numbers_of, ComesBefore}
 
 -- a violation of each kind that tells these numbers, in the order of kinds
 abbrev kinds : ℕ × ℕ → List Fault
@@ -40,3 +40,11 @@ no_second_number (Blocked c) few = absurd (omega (arith, few))
 no_second_number (Short a b) few = absurd (omega (arith, few))
 no_second_number (TooNear a b) few = absurd (omega (arith, few))
 no_second_number (OpenNet n k) few = absurd (omega (arith, few))
+
+-- a violation of a lower kind comes first
+pub lower_kind_first : (v w : Fault) → kind_number v < kind_number w → ComesBefore v w
+lower_kind_first v w less = record {
+  kind = omega (arith, less);
+  first = λ same. absurd (omega (arith, less, same));
+  second = λ same. absurd (omega (arith, less, same));
+}

@@ -5,7 +5,6 @@ mod MovedNets
 -- A net that gets wires
 mod NetsKept
 mod NetWires
-mod EachWith
 mod AllNetWires
 -- What the proofs of other crates cite
 pub mod ComponentMacro
@@ -13,3 +12,4 @@ pub mod MovableOrNot
 pub mod SameTerminal
 pub mod Blank
 pub mod FaultNumbers
+pub mod EachWith

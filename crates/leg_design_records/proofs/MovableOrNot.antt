@@ -30,7 +30,8 @@ module _ (design : DesignModel) (c : ℕ) (component : Component) (there : slice
   master_told : (m : IsMovable design c) → slice_get design.library.masters component.master ≡ Some m.master
   master_told m = let is : m.component ≡ component = component_is m in rw is at m.is_master
 
-  movable_of_site : MayMove component.status → (master : MasterModel) → slice_get design.library.masters component.master ≡ Some master → (site : Option ℕ) → master.site ≡ site → IsMovable design c ⊎ (IsMovable design c → ⊥)
+  movable_of_site : MayMove component.status → (master : MasterModel) → slice_get design.library.masters component.master ≡ Some master → (site : Option ℕ)
+      → master.site ≡ site → IsMovable design c ⊎ (IsMovable design c → ⊥)
   movable_of_site may master is_master None no_site =
       inr (λ m.
       let same : m.master ≡ master = same_Some m.master master (sym (master_told m) ∙ is_master) in
@@ -38,7 +39,8 @@ module _ (design : DesignModel) (c : ℕ) (component : Component) (there : slice
   movable_of_site may master is_master (Some number) site =
       inl (record { component = component; there = there; status = may; master = master; is_master = is_master; number = number; site = site })
 
-  movable_of_master : MayMove component.status → (master : Option MasterModel) → slice_get design.library.masters component.master ≡ master → IsMovable design c ⊎ (IsMovable design c → ⊥)
+  movable_of_master : MayMove component.status → (master : Option MasterModel) → slice_get design.library.masters component.master ≡ master
+      → IsMovable design c ⊎ (IsMovable design c → ⊥)
   movable_of_master may None no_master = inr (λ m. none-some m.master (sym no_master ∙ master_told m))
   movable_of_master may (Some master) is_master = movable_of_site may master is_master master.site refl
 
@@ -50,7 +52,8 @@ module _ (design : DesignModel) (c : ℕ) (component : Component) (there : slice
       ]
 
 -- the same by tests of its status and of its macro's site
-pub movable_test : (design : DesignModel) (c : ℕ) (component : Component) (master : MasterModel) (b : Bool) → slice_get design.components c ≡ Some component → slice_get design.library.masters component.master ≡ Some master → MayMove component.status → b ≡ is_some master.site → IsTrue b ↔ IsMovable design c
+pub movable_test : (design : DesignModel) (c : ℕ) (component : Component) (master : MasterModel) (b : Bool) → slice_get design.components c ≡ Some component
+    → slice_get design.library.masters component.master ≡ Some master → MayMove component.status → b ≡ is_some master.site → IsTrue b ↔ IsMovable design c
 movable_test design c component master b there is_master may test = (
   λ t.
       let some : (x : ℕ) × (master.site ≡ Some x) = some_from_test master.site (sym test ∙ t) in

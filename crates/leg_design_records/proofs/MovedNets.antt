@@ -20,10 +20,12 @@ pub record HasMaster (components : List Component) (k master : ℕ) : Type 0 whe
   pub there : slice_get components k ≡ Some component
   pub same : component.master ≡ master
 
-stands_in_rest : (first : Component) (components : List Component) (n : ℕ) (component : Component) → IsPlacedOn (first ∷ components) (suc n) component → IsPlacedOn components n component
+stands_in_rest : (first : Component) (components : List Component) (n : ℕ) (component : Component) → IsPlacedOn (first ∷ components) (suc n) component
+    → IsPlacedOn components n component
 stands_in_rest first components n component at = record { within = omega (arith, at.within); is = at.is }
 
-pub master_stays : (components : List Component) (n : ℕ) (component : Component) (place : Place) → IsPlacedOn components n component → (k : ℕ) (found : Component) → slice_get components k ≡ Some found → HasMaster (with_moved components n component place) k found.master
+pub master_stays : (components : List Component) (n : ℕ) (component : Component) (place : Place) → IsPlacedOn components n component
+    → (k : ℕ) (found : Component) → slice_get components k ≡ Some found → HasMaster (with_moved components n component place) k found.master
 master_stays [] n component place at k found is = absurd (none-some found is)
 master_stays (first ∷ components) zero component place at zero found is =
     record { component = moved component place; there = refl; same = ap (λ (c : Component). c.master) (at.is ∙ same_Some first found is) }
@@ -35,19 +37,22 @@ master_stays (first ∷ components) (suc n) component place at (suc k) found is 
     let rest = master_stays components n component place (stands_in_rest first components n component at) k found is in
     record { component = rest.component; there = rest.there; same = rest.same }
 
-terminal_stays : (design : DesignModel) (n : ℕ) (component : Component) (place : Place) → IsPlacedOn design.components n component → (terminal : Terminal) → IsTerminal design terminal → IsTerminal (design_moved design n component place) terminal
+terminal_stays : (design : DesignModel) (n : ℕ) (component : Component) (place : Place) → IsPlacedOn design.components n component → (terminal : Terminal)
+    → IsTerminal design terminal → IsTerminal (design_moved design n component place) terminal
 terminal_stays design n component place at (Pin p) proper = proper
 terminal_stays design n component place at (Comp c k) proper =
     let now = master_stays design.components n component place at c proper.0 proper.1 in
     (now.component, now.there, (proper.2.0, ap (slice_get design.library.masters) now.same ∙ proper.2.1, proper.2.2))
 
-moved_keeps : (design : DesignModel) (n : ℕ) (component : Component) (place : Place) → IsPlacedOn design.components n component → Keeps design (design_moved design n component place)
+moved_keeps : (design : DesignModel) (n : ℕ) (component : Component) (place : Place) → IsPlacedOn design.components n component
+    → Keeps design (design_moved design n component place)
 moved_keeps design n component place at = record {
   terminals = terminal_stays design n component place at;
   wires = λ special wire proper. proper;
 }
 
-pub nets_stay : (design : DesignModel) (n : ℕ) (component : Component) (place : Place) → IsPlacedOn design.components n component → HasNets design → HasNets (design_moved design n component place)
+pub nets_stay : (design : DesignModel) (n : ℕ) (component : Component) (place : Place) → IsPlacedOn design.components n component → HasNets design
+    → HasNets (design_moved design n component place)
 nets_stay design n component place at proper =
     let after = design_moved design n component place in
     let keeps = moved_keeps design n component place at in
@@ -67,7 +72,8 @@ nets_stay design n component place at proper =
       few_wires = proper.few_wires;
     }
 
-pub stays_well_formed : (design : DesignModel) (n : ℕ) (component : Component) (place : Place) → IsPlacedOn design.components n component → IsPosition place.at → IsWellFormed design → IsWellFormed (design_moved design n component place)
+pub stays_well_formed : (design : DesignModel) (n : ℕ) (component : Component) (place : Place) → IsPlacedOn design.components n component → IsPosition place.at
+    → IsWellFormed design → IsWellFormed (design_moved design n component place)
 stays_well_formed design n component place at within proper = record {
   name = proper.name;
   divider = proper.divider;

@@ -19,16 +19,19 @@ moved component place = record component { status = Placed; place = Some place }
 abbrev pub with_moved : List Component → ℕ → Component → Place → List Component
 with_moved components k component place = set components k (moved component place)
 
-pub names_stay : (components : List Component) (k : ℕ) (component : Component) (place : Place) → IsPlacedOn components k component → component_names (with_moved components k component place) ≡ component_names components
+pub names_stay : (components : List Component) (k : ℕ) (component : Component) (place : Place) → IsPlacedOn components k component
+    → component_names (with_moved components k component place) ≡ component_names components
 names_stay components k component place at =
     same_map (λ (c : Component). c.name) components k component (moved component place) at refl
 
-moved_component : (library : LibraryModel) (components : List Component) (k : ℕ) (component : Component) (place : Place) → IsPlacedOn components k component → IsPosition place.at → AreComponents library components → IsComponent library (moved component place)
+moved_component : (library : LibraryModel) (components : List Component) (k : ℕ) (component : Component) (place : Place) → IsPlacedOn components k component
+    → IsPosition place.at → AreComponents library components → IsComponent library (moved component place)
 moved_component library components k component place at within proper =
     let was = subst (IsComponent library) (sym at.is) (All-get_or (IsComponent library) components k component at.within proper.each) in
     record { name = was.name; no_pin = was.no_pin; master = was.master; placed = within }
 
-pub components_stay : (library : LibraryModel) (components : List Component) (k : ℕ) (component : Component) (place : Place) → IsPlacedOn components k component → IsPosition place.at → AreComponents library components → AreComponents library (with_moved components k component place)
+pub components_stay : (library : LibraryModel) (components : List Component) (k : ℕ) (component : Component) (place : Place) → IsPlacedOn components k component
+    → IsPosition place.at → AreComponents library components → AreComponents library (with_moved components k component place)
 components_stay library components k component place at within proper = record {
   each = All-set (IsComponent library) components k (moved component place) (moved_component library components k component place at within proper) proper.each;
   apart = subst AreApart (sym (names_stay components k component place at)) proper.apart;

@@ -25,13 +25,15 @@ with_wired nets n net wires = set nets n (wired net wires)
 abbrev pub design_wired : DesignModel → ℕ → NetModel → List Wire → DesignModel
 design_wired design n net wires = record design { nets = with_wired design.nets n net wires }
 
-pub terminals_counted : (nets : List NetModel) (n : ℕ) (net : NetModel) (wires : List Wire) → IsPlacedOn nets n net → terminal_count (with_wired nets n net wires) ≡ terminal_count nets
+pub terminals_counted : (nets : List NetModel) (n : ℕ) (net : NetModel) (wires : List Wire) → IsPlacedOn nets n net
+    → terminal_count (with_wired nets n net wires) ≡ terminal_count nets
 terminals_counted [] n net wires at = refl
 terminals_counted (first ∷ nets) zero net wires at = ap (λ (m : NetModel). length m.terminals + terminal_count nets) at.is
 terminals_counted (first ∷ nets) (suc n) net wires at =
     ap (λ count. length first.terminals + count) (terminals_counted nets n net wires (record { within = omega (arith, at.within); is = at.is }))
 
-pub wires_counted : (nets : List NetModel) (n : ℕ) (net : NetModel) (wires : List Wire) → IsPlacedOn nets n net → wire_count (with_wired nets n net wires) ≡ wire_count nets + length wires
+pub wires_counted : (nets : List NetModel) (n : ℕ) (net : NetModel) (wires : List Wire) → IsPlacedOn nets n net
+    → wire_count (with_wired nets n net wires) ≡ wire_count nets + length wires
 wires_counted [] n net wires at = absurd (omega (arith, at.within))
 wires_counted (first ∷ nets) zero net wires at =
     let same : length net.wires ≡ length first.wires = ap (λ (m : NetModel). length m.wires) at.is in
@@ -45,16 +47,19 @@ pub record MayGet (design : DesignModel) (n : ℕ) (net : NetModel) (wires : Lis
   pub spelled : All (IsWire design.library design.vias false) wires
   pub few : wire_count design.nets + wire_count design.special + length wires ≤ PART_LIMIT
 
-nets_alike : (design : DesignModel) (n : ℕ) (net : NetModel) (wires : List Wire) → IsPlacedOn design.nets n net → AreAlike (design.nets ++ design.special) (with_wired design.nets n net wires ++ design.special)
+nets_alike : (design : DesignModel) (n : ℕ) (net : NetModel) (wires : List Wire) → IsPlacedOn design.nets n net
+    → AreAlike (design.nets ++ design.special) (with_wired design.nets n net wires ++ design.special)
 nets_alike design n net wires at =
     let all = stands_before design.nets design.special n net at in
     let pushed = set-append_left design.nets design.special n (wired net wires) at.within in
     record {
       names = sym (same_map (λ (m : NetModel). m.name) (design.nets ++ design.special) n net (wired net wires) all refl) ∙ ap net_names pushed;
-      terminals = sym (same_map (λ (m : NetModel). m.terminals) (design.nets ++ design.special) n net (wired net wires) all refl) ∙ ap (map (λ m. m.terminals)) pushed;
+      terminals = sym (same_map (λ (m : NetModel). m.terminals) (design.nets ++ design.special) n net (wired net wires) all refl)
+          ∙ ap (map (λ m. m.terminals)) pushed;
     }
 
-terminal_kept : (design : DesignModel) (n : ℕ) (net : NetModel) (wires : List Wire) (terminal : Terminal) → IsTerminal design terminal → IsTerminal (design_wired design n net wires) terminal
+terminal_kept : (design : DesignModel) (n : ℕ) (net : NetModel) (wires : List Wire) (terminal : Terminal) → IsTerminal design terminal
+    → IsTerminal (design_wired design n net wires) terminal
 terminal_kept design n net wires (Pin p) proper = proper
 terminal_kept design n net wires (Comp c k) proper = proper
 
@@ -65,7 +70,8 @@ wired_keeps design n net wires = record {
 }
 
 -- the net that got the wires is one that DEF can spell
-wired_net : (design : DesignModel) (n : ℕ) (net : NetModel) (wires : List Wire) → MayGet design n net wires → AreNets design false design.nets → IsNet design false (wired net wires)
+wired_net : (design : DesignModel) (n : ℕ) (net : NetModel) (wires : List Wire) → MayGet design n net wires → AreNets design false design.nets
+    → IsNet design false (wired net wires)
 wired_net design n net wires may proper =
     let was = subst (IsNet design false) (sym may.at.is) (All-get_or (IsNet design false) design.nets n net may.at.within proper.each) in
     record {
@@ -77,7 +83,8 @@ wired_net design n net wires may proper =
       wires = All-append (IsWire design.library design.vias false) net.wires wires was.wires may.spelled;
     }
 
-pub nets_stay : (design : DesignModel) (n : ℕ) (net : NetModel) (wires : List Wire) → MayGet design n net wires → HasNets design → HasNets (design_wired design n net wires)
+pub nets_stay : (design : DesignModel) (n : ℕ) (net : NetModel) (wires : List Wire) → MayGet design n net wires → HasNets design
+    → HasNets (design_wired design n net wires)
 nets_stay design n net wires may proper =
     let after = design_wired design n net wires in
     let keeps = wired_keeps design n net wires in
@@ -86,7 +93,8 @@ nets_stay design n net wires may proper =
     let alike = nets_alike design n net wires may.at in
     record {
       nets = record {
-        each = All-weaker (IsNet design false) (IsNet after false) (net_kept design after keeps false) after.nets (All-set (IsNet design false) design.nets n (wired net wires) (wired_net design n net wires may proper.nets) proper.nets.each);
+        each = All-weaker (IsNet design false) (IsNet after false) (net_kept design after keeps false) after.nets
+            (All-set (IsNet design false) design.nets n (wired net wires) (wired_net design n net wires may proper.nets) proper.nets.each);
         apart = subst AreApart (sym (same_map (λ (m : NetModel). m.name) design.nets n net (wired net wires) may.at refl)) proper.nets.apart;
       };
       special = record {
@@ -100,7 +108,8 @@ nets_stay design n net wires may proper =
       few_wires = omega (arith, may.few, wires_counted design.nets n net wires may.at);
     }
 
-pub stays_well_formed : (design : DesignModel) (n : ℕ) (net : NetModel) (wires : List Wire) → MayGet design n net wires → IsWellFormed design → IsWellFormed (design_wired design n net wires)
+pub stays_well_formed : (design : DesignModel) (n : ℕ) (net : NetModel) (wires : List Wire) → MayGet design n net wires → IsWellFormed design
+    → IsWellFormed (design_wired design n net wires)
 stays_well_formed design n net wires may proper = record {
   name = proper.name;
   divider = proper.divider;

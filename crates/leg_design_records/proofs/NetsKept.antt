@@ -49,8 +49,10 @@ found_again xs ys alike net there =
     record {
       like = get_or ys k net;
       there = (k, within, get_or_default ys k (get_or ys k net) net within);
-      name = sym (get_or-map name ys k net net.name within) ∙ sym (ap (λ names. get_or names k net.name) alike.names) ∙ get_or-map name xs k net net.name there.1 ∙ ap name there.2;
-      terminals = sym (get_or-map terminals ys k net net.terminals within) ∙ sym (ap (λ lists. get_or lists k net.terminals) alike.terminals) ∙ get_or-map terminals xs k net net.terminals there.1 ∙ ap terminals there.2;
+      name = sym (get_or-map name ys k net net.name within) ∙ sym (ap (λ names. get_or names k net.name) alike.names)
+          ∙ get_or-map name xs k net net.name there.1 ∙ ap name there.2;
+      terminals = sym (get_or-map terminals ys k net net.terminals within) ∙ sym (ap (λ lists. get_or lists k net.terminals) alike.terminals)
+          ∙ get_or-map terminals xs k net net.terminals there.1 ∙ ap terminals there.2;
     }
 
 pub one_net_kept : (xs ys : List NetModel) → AreAlike xs ys → AreInOneNet xs → AreInOneNet ys

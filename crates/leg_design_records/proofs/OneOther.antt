@@ -8,7 +8,8 @@ pub record IsPlacedOn {X : Type 0} (xs : List X) (k : ℕ) (x : X) : Type 0 wher
   pub is : x ≡ get_or xs k x
 
 -- what is the same of both elements is the same of both lists
-pub same_map : {X Y : Type 0} (f : X → Y) (xs : List X) (k : ℕ) (before after : X) → IsPlacedOn xs k before → f after ≡ f before → map f (set xs k after) ≡ map f xs
+pub same_map : {X Y : Type 0} (f : X → Y) (xs : List X) (k : ℕ) (before after : X) → IsPlacedOn xs k before → f after ≡ f before
+    → map f (set xs k after) ≡ map f xs
 same_map f xs k before after at same =
     map-set f xs k after
     ∙ ap (set (map f xs) k) same

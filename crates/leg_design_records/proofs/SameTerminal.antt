@@ -1,7 +1,7 @@
 -- Terminals that are the same, and those that are among others.
-use Rattle.std.proofs.Common.{◌≡◌, ℕ, Bool, true, false, ◌&&◌, ◌||◌, ◌==◌, List, Contains, refl, ap, ◌∙◌, arith, rules}
+use Rattle.std.proofs.Common.{◌≡◌, ℕ, Bool, true, ◌==◌, List, Contains, refl, ap, ◌∙◌, arith, rules}
 use Rattle.std.specs.List.{list_any}
-use Rattle.std.proofs.lemmas.Bool.{false≢true}
+use Rattle.std.proofs.lemmas.Bool.{false≢true, and_parts}
 use Rattle.std.proofs.lemmas.Bool.Decides.{nat_tests}
 use Rattle.std.proofs.lemmas.List.Folds.{list_any_at, Any-from_list_any}
 use Rattle.leg_design_records.specs.contracts.records.TerminalPartialEq.TheImpl.{eq-value}
@@ -16,14 +16,10 @@ terminal_eq_is (Comp c k) (Pin q) = refl
 terminal_eq_is (Pin p) (Comp d l) = refl
 terminal_eq_is (Pin p) (Pin q) = search rules
 
-both : (a b : Bool) → (a && b) ≡ true → (a ≡ true) × (b ≡ true)
-both true b e = (refl, e)
-both false b e = absurd (false≢true e)
-
 -- a terminal is the same as itself alone
 pub same_is : (a b : Terminal) → is_same_terminal a b ≡ true → a ≡ b
 same_is (Comp c k) (Comp d l) same =
-    let parts = both (c == d) (k == l) same in
+    let parts = and_parts (c == d) (k == l) same in
     let first : c ≡ d = grind (arith, nat_tests, parts.0) in
     let second : k ≡ l = grind (arith, nat_tests, parts.1) in
     rw (first, second) refl
@@ -39,10 +35,6 @@ number_itself n = grind (arith, nat_tests)
 pub same_itself : (a : Terminal) → is_same_terminal a a ≡ true
 same_itself (Comp c k) = rw (number_itself c, number_itself k) refl
 same_itself (Pin p) = number_itself p
-
-pub or-true : (a b : Bool) → b ≡ true → (a || b) ≡ true
-or-true true b e = refl
-or-true false b e = e
 
 -- an element that passes the test
 pub record Passes {X : Type 0} (test : X → Bool) (xs : List X) : Type 0 where

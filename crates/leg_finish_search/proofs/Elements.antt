@@ -1,12 +1,9 @@
 -- Elements of lists.
-use Rattle.std.proofs.Common.{◌≡◌, ◌<◌, ℕ, List, [], ◌∷◌, All, length, map, get_or, ◌++◌, take, drop, subst, sym, ◌∙◌, arith}
+use Rattle.std.proofs.Common.{◌≡◌, ◌<◌, ℕ, List, [], ◌∷◌, All, length, map, ◌++◌, take, drop, subst, sym, ◌∙◌, arith}
 use Rattle.std.proofs.lemmas.List.{take_all, take-append-le}
-use Rattle.std.proofs.lemmas.List.Elements.{All-get_or, All-nil, All-cons, All-head, All-tail}
+use Rattle.std.proofs.lemmas.List.Elements.{All-nil, All-cons, All-head, All-tail}
 use Rattle.leg_finish_search.specs.Slots.{AreSlots}
 use Rattle.leg_finish_search.specs.Steps.NetWalks.{LaidModel, IsLaidIn}
-
-pub all_at : {X : Type 0} (P : X → Type 0) (xs : List X) (i : ℕ) (x : X) → All P xs → i < length xs → x ≡ get_or xs i x → P x
-all_at P xs i x all less is = subst P (sym is) (All-get_or P xs i x less all)
 
 -- a net without walks is laid in any grid
 pub none : (size : ℕ) (laid : LaidModel) → laid ≡ record { walks = []; nodes = []; vias = [] } → IsLaidIn size laid

@@ -1,7 +1,7 @@
 -- All nets of a design.
-use Rattle.std.proofs.Common.{◌≡◌, ℕ, suc, ◌+◌, ◌-◌, ◌<◌, Bool, true, false, not, ◌||◌, List, [], ◌∷◌, ◌++◌, length, map, slice_get, filter, Option, None, Some, refl, sym, ap, ◌∙◌, arith}
+use Rattle.std.proofs.Common.{◌≡◌, ℕ, suc, ◌+◌, ◌-◌, ◌<◌, Bool, true, false, not, List, [], ◌∷◌, ◌++◌, length, map, slice_get, filter, Option, None, Some, refl, sym, ap, ◌∙◌, arith}
 use Rattle.std.specs.List.{range_with_len}
-use Rattle.std.proofs.lemmas.Bool.{false≢true, true≢false}
+use Rattle.std.proofs.lemmas.Bool.{false≢true, true≢false, or_right, or_left}
 use Rattle.std.proofs.lemmas.List.Folds.{list_any-append}
 use Rattle.std.proofs.lemmas.List.FromFn.{map-range_with_len_more}
 use Rattle.std.proofs.lemmas.Option.{slice_get_within, slice_get_past}
@@ -10,7 +10,7 @@ use Rattle.leg_design_records.specs.declared.records.Terminal.{Terminal}
 use Rattle.leg_design_records.specs.Terminals.{is_same_terminal, is_among}
 use Rattle.leg_design_records.specs.Records.{DesignModel, NetModel, net_names}
 use Rattle.leg_design_records.specs.WellFormedNets.{HasNets}
-use Rattle.leg_design_records.proofs.SameTerminal.{same_is, or-true}
+use Rattle.leg_design_records.proofs.SameTerminal.{same_is}
 use Rattle.leg_rules.specs.declared.piece.Piece.{Piece}
 use Rattle.leg_rules.specs.Metal.Nets.{number_of_special, special_entry, regular_entry, entry_terminals, terminals_of, pieces_of}
 use Rattle.leg_rules.specs.Metal.Owner.{listing_place, net_of, piece_of}
@@ -32,10 +32,6 @@ among_passes t p (u ∷ ts) among passes = by (λ rest. among_passes t p ts rest
       absurd (true≢false (sym passes ∙ ap p it ∙ is))
   by rest false other true is = rw (is, other) (rest (rw other at among))
   by rest false other false is = rw is (rest (rw other at among))
-
-or_first : (a b : Bool) → a ≡ true → (a || b) ≡ true
-or_first true b e = refl
-or_first false b e = absurd (false≢true e)
 
 -- the entry of SPECIALNETS of the net that an entry is of is that one
 pub special_of : (design : DesignModel) → HasNets design → (k : ℕ) (net : NetModel) → slice_get design.special k ≡ Some net
@@ -62,7 +58,7 @@ module _ (design : DesignModel) (has : HasNets design) (t : Terminal) where
   regular_among n lists =
       list_any-append (is_same_terminal t) (entry_terminals (regular_entry design n))
       (filter (λ u. not (is_among u (entry_terminals (regular_entry design n)))) (entry_terminals (special_entry design n)))
-      ∙ or_first (is_among t (entry_terminals (regular_entry design n)))
+      ∙ or_left (is_among t (entry_terminals (regular_entry design n)))
       (is_among t (filter (λ u. not (is_among u (entry_terminals (regular_entry design n)))) (entry_terminals (special_entry design n)))) lists
 
   special_among : (n : ℕ) → is_among t (entry_terminals (special_entry design n)) ≡ true → is_among t (terminals_of design n) ≡ true
@@ -76,11 +72,11 @@ module _ (design : DesignModel) (has : HasNets design) (t : Terminal) where
 
     by : (b : Bool) → is_among t (entry_terminals (regular_entry design n)) ≡ b → is_among t (first ++ rest) ≡ true
     by true here =
-        list_any-append (is_same_terminal t) first rest ∙ or_first (is_among t first) (is_among t rest) here
+        list_any-append (is_same_terminal t) first rest ∙ or_left (is_among t first) (is_among t rest) here
     by false other =
         let passes : not (is_among t first) ≡ true = rw other refl in
         list_any-append (is_same_terminal t) first rest
-        ∙ or-true (is_among t first) (is_among t rest) (among_passes t (λ u. not (is_among u first)) (entry_terminals (special_entry design n)) lists passes)
+        ∙ or_right (is_among t first) (is_among t rest) (among_passes t (λ u. not (is_among u first)) (entry_terminals (special_entry design n)) lists passes)
 
   -- a terminal that is in a net is among its terminals
   pub net_in : (n : ℕ) → net_of design t ≡ Some n → IsNetOf design n t

@@ -1,24 +1,15 @@
 -- What a slice's get answers, is the element of that place.
-use Rattle.std.proofs.Common.{◌≡◌, ℕ, zero, suc, ◌+◌, ◌<◌, ◌≤◌, ◌-◌, ◌++◌, List, [], ◌∷◌, length, get_or, slice_get, Option, None, Some, nat_lt, option_map, Bor, refl, sym, ap, ◌∙◌, arith}
+use Rattle.std.proofs.Common.{◌≡◌, ℕ, ◌+◌, ◌<◌, ◌≤◌, ◌-◌, ◌++◌, List, length, get_or, slice_get, Option, None, Some, nat_lt, option_map, Bor, refl, sym, ◌∙◌, arith}
 use Rattle.std.specs.Option.{is_some, IfSome}
 use Rattle.std.proofs.lemmas.Bool.Decides.{nat_tests}
 use Rattle.std.proofs.lemmas.Option.{slice_get_past, slice_get_read}
+use Rattle.leg_lemmas.proofs.Places.{in_first, get_behind}
 
 -- the element of a list
 pub got_is : {X : Type 0} (xs : List X) (i : ℕ) (got : Option (Bor X)) → is_some got ≡ nat_lt i (length xs) → IfSome got (λ x. x.now ≡ get_or xs i x.now)
     → option_map (λ x. x.now) got ≡ slice_get xs i
 got_is xs i None found is = sym (slice_get_past xs i (grind (arith, nat_tests)))
 got_is xs i (Some x) found is = sym (slice_get_read xs (length xs) i x.now refl (grind (arith, nat_tests)) is)
-
-in_first : {X : Type 0} (xs ys : List X) (i : ℕ) → i < length xs → slice_get (xs ++ ys) i ≡ slice_get xs i
-in_first [] ys i less = absurd (omega arith)
-in_first (x ∷ xs) ys zero less = refl
-in_first (x ∷ xs) ys (suc i) less = in_first xs ys i (omega arith)
-
-behind : {X : Type 0} (xs ys : List X) (i j : ℕ) → i ≡ length xs + j → slice_get (xs ++ ys) i ≡ slice_get ys j
-behind [] ys i j is = ap (slice_get ys) (omega (arith, is))
-behind (x ∷ xs) ys zero j is = absurd (omega (arith, is))
-behind (x ∷ xs) ys (suc i) j is = behind xs ys i j (omega (arith, is))
 
 -- an element of the first of two lists
 pub got_first : {X : Type 0} (xs ys : List X) (i : ℕ) (got : Option (Bor X)) → i < length xs → is_some got ≡ nat_lt i (length xs)
@@ -29,4 +20,4 @@ got_first xs ys i got less found is = got_is xs i got found is ∙ sym (in_first
 pub got_second : {X : Type 0} (xs ys : List X) (i : ℕ) (got : Option (Bor X)) → length xs ≤ i → is_some got ≡ nat_lt (i - length xs) (length ys)
     → IfSome got (λ x. x.now ≡ get_or ys (i - length xs) x.now) → option_map (λ x. x.now) got ≡ slice_get (xs ++ ys) i
 got_second xs ys i got past found is =
-    got_is ys (i - length xs) got found is ∙ sym (behind xs ys i (i - length xs) (omega arith))
+    got_is ys (i - length xs) got found is ∙ sym (get_behind xs ys i (i - length xs) (omega arith))

@@ -1,10 +1,9 @@
 -- A flat keeps its limits.
-use Rattle.std.proofs.Common.{◌≡◌, ℕ, ◌+◌, ◌*◌, ◌^◌, ◌<◌, ◌≤◌, List, [], ◌∷◌, length, length-append, map, get_or, All, refl, arith}
+use Rattle.std.proofs.Common.{◌≡◌, ℕ, ◌+◌, ◌*◌, ◌^◌, ◌<◌, ◌≤◌, List, length, length-append, map, get_or, All, refl, arith}
 use Rattle.std.specs.List.{range_with_len}
 use Rattle.std.proofs.lemmas.List.{length-map}
 use Rattle.std.proofs.lemmas.List.Elements.{All-map}
 use Rattle.std.proofs.lemmas.List.FromFn.{length-range_with_len, length-map-range_with_len}
-use Rattle.leg_lib_records.specs.Scale.{OneForOne}
 use Rattle.leg_design_records.specs.declared.limits.TheConstants.{PART_LIMIT}
 use Rattle.leg_design_records.specs.Records.{DesignModel}
 use Rattle.leg_design_records.specs.WellFormedNets.{HasNets}
@@ -15,13 +14,6 @@ use Rattle.leg_flat.specs.Limits.{ArePieces}
 use Rattle.leg_flat.specs.Steps.Places.{net_numbers}
 use Rattle.leg_flat.proofs.NetSizes.{few_wires}
 use Rattle.leg_flat.proofs.MetalSizes.{terminals_few}
-
--- lists that stand one for one are of one length
-pub same_length : {X Y : Type 0} (R : X → Y → Type 0) (xs : List X) (ys : List Y) → OneForOne R xs ys → length xs ≡ length ys
-same_length R [] [] one = omega arith
-same_length R [] (y ∷ ys) one = absurd one
-same_length R (x ∷ xs) [] one = absurd one
-same_length R (x ∷ xs) (y ∷ ys) one = omega (arith, same_length R xs ys one.1)
 
 module _ (design : DesignModel) (has : HasNets design) where
   few_pieces : (n : ℕ) → length (pieces_of design n) ≤ 2 * PART_LIMIT

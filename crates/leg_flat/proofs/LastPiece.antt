@@ -28,8 +28,8 @@ last_is_wire terminals m =
     ∙ get_or-map-range_with_len Wire 0 (suc m) m m (Wire m) (omega arith) (omega arith)))
 
 -- a terminal is no wire
-differ : (terminal : Terminal) (n : ℕ) → ¬ (Term terminal ≡ Wire n)
-differ terminal n same = subst holds same tt
+pub terminal_no_wire : (terminal : Terminal) (n : ℕ) → ¬ (Term terminal ≡ Wire n)
+terminal_no_wire terminal n same = subst holds same tt
   where
     holds : Piece → Type 0
     holds (Term t) = Unit {0}
@@ -42,7 +42,7 @@ not_a_wire terminals k last is =
   where
     by : (terminal : Option Terminal) → option_map Term terminal ≡ Some (Wire last) → ⊥
     by None is = none-some (Wire last) is
-    by (Some terminal) is = absurd (differ terminal last (same_Some (Term terminal) (Wire last) is))
+    by (Some terminal) is = absurd (terminal_no_wire terminal last (same_Some (Term terminal) (Wire last) is))
 
 pub wires_by_wire : (terminals : List Terminal) (wires last : ℕ) → last_piece (pieces_with terminals wires) ≡ Some (Wire last) → last + 1 ≡ wires
 wires_by_wire terminals zero last is = absurd (not_a_wire terminals _ last is)
@@ -58,4 +58,5 @@ wires_by_wire terminals (suc m) last is =
 pub wires_by_terminal : (terminals : List Terminal) (wires : ℕ) (terminal : Terminal) → last_piece (pieces_with terminals wires) ≡ Some (Term terminal)
     → 0 ≡ wires
 wires_by_terminal terminals zero terminal is = refl
-wires_by_terminal terminals (suc m) terminal is = absurd (differ terminal m (sym (same_Some (Wire m) (Term terminal) (sym (last_is_wire terminals m) ∙ is))))
+wires_by_terminal terminals (suc m) terminal is =
+    absurd (terminal_no_wire terminal m (sym (same_Some (Wire m) (Term terminal) (sym (last_is_wire terminals m) ∙ is))))

@@ -19,7 +19,6 @@ mod AllNets
 mod MoreMetal
 mod MetalWalks
 mod MetalOwners
-mod MetalKnown
 mod MetalLines
 mod MetalSizes
 mod MetalKept
@@ -45,7 +44,8 @@ mod FlatWithin
 mod Elements
 -- What the proofs of other crates cite
 pub mod OneFlat
+pub mod LastPiece
+pub mod MetalKnown
 pub mod Parts
 -- A net that gets a wire
-mod LastPiece
 mod OneMoreWire

@@ -1,43 +1,10 @@
 -- What lists have at their places, and what a walk gives.
-use Rattle.std.proofs.Common.{◌≡◌, ℕ, zero, suc, ◌+◌, ◌⊎◌, inl, inr, List, [], ◌∷◌, ◌++◌, length, map, slice_get, Contains, Some, refl, sym, ap, ◌∙◌, subst, add-zero, zero-add, arith}
+use Rattle.std.proofs.Common.{◌≡◌, ℕ, zero, suc, ◌+◌, ◌⊎◌, inl, inr, List, [], ◌∷◌, map, slice_get, Contains, Some, refl, sym, subst, add-zero, zero-add, arith}
 use Rattle.std.proofs.lemmas.List.Elements.{Contains-append_left, Contains-append_right, Contains-append_cases}
-use Rattle.std.proofs.lemmas.Option.{slice_get_within, slice_get-get_or, slice_get-map}
+use Rattle.std.proofs.lemmas.Option.{slice_get_within}
+use Rattle.leg_lemmas.proofs.Places.{place_of_contained}
+use Rattle.leg_lemmas.proofs.Contained.{Contains-nil}
 use Rattle.leg_flat.proofs.MoreMetal.{walk}
-use Rattle.leg_flat.proofs.NetOf.{contains_at}
-use Rattle.leg_flat.proofs.Parts.{nothing_in}
-
--- an element with its place
-pub record Stands {X : Type 0} (xs : List X) (x : X) : Type 0 where
-  pub k : ℕ
-  pub there : slice_get xs k ≡ Some x
-
-pub stands : {X : Type 0} (xs : List X) (x : X) → Contains xs x → Stands xs x
-stands xs x c = record { k = c.0; there = slice_get-get_or xs c.0 x c.1 ∙ ap Some c.2 }
-
-pub get_first : {X : Type 0} (xs ys : List X) (k : ℕ) (x : X) → slice_get xs k ≡ Some x → slice_get (xs ++ ys) k ≡ Some x
-get_first [] ys k x at = absurd (let e : ⊥ = omega (arith, slice_get_within [] k x at) in e)
-get_first (y ∷ xs) ys zero x at = at
-get_first (y ∷ xs) ys (suc k) x at = get_first xs ys k x at
-
-pub get_second : {X : Type 0} (xs ys : List X) (k : ℕ) → slice_get (xs ++ ys) (length xs + k) ≡ slice_get ys k
-get_second [] ys k = ap (slice_get ys) (omega arith)
-get_second (x ∷ xs) ys k =
-    let next : length (x ∷ xs) + k ≡ suc (length xs + k) = omega arith in
-    ap (slice_get (x ∷ (xs ++ ys))) next ∙ get_second xs ys k
-
--- where an element of two lists stands
-pub record InSecond {X : Type 0} (xs ys : List X) (k : ℕ) (x : X) : Type 0 where
-  pub j : ℕ
-  pub place : k ≡ length xs + j
-  pub there : slice_get ys j ≡ Some x
-
-pub get_cases : {X : Type 0} (xs ys : List X) (k : ℕ) (x : X) → slice_get (xs ++ ys) k ≡ Some x → (slice_get xs k ≡ Some x) ⊎ InSecond xs ys k x
-get_cases [] ys k x at = inr (record { j = k; place = omega arith; there = at })
-get_cases (y ∷ xs) ys zero x at = inl at
-get_cases (y ∷ xs) ys (suc k) x at = by (get_cases xs ys k x at) where
-  by : (slice_get xs k ≡ Some x) ⊎ InSecond xs ys k x → (slice_get (y ∷ xs) (suc k) ≡ Some x) ⊎ InSecond (y ∷ xs) ys (suc k) x
-  by (inl here) = inl here
-  by (inr behind) = inr (record { j = behind.j; place = omega (arith, behind.place); there = behind.there })
 
 -- an element of what a list is mapped to comes from one
 pub record Comes {X Y : Type 0} (f : X → Y) (xs : List X) (y : Y) : Type 0 where
@@ -54,12 +21,7 @@ comes_at f (x ∷ xs) (suc k) y at =
     record { x = from.x; k = suc from.k; there = from.there; is = from.is }
 
 pub comes : {X Y : Type 0} (f : X → Y) (xs : List X) (y : Y) → Contains (map f xs) y → Comes f xs y
-comes f xs y c = let at = stands (map f xs) y c in comes_at f xs at.k y at.there
-
-pub goes : {X Y : Type 0} (f : X → Y) (xs : List X) (x : X) → Contains xs x → Contains (map f xs) (f x)
-goes f xs x c =
-    let at = stands xs x c in
-    contains_at (map f xs) at.k (f x) (slice_get-map f xs at.k ∙ rw at.there refl)
+comes f xs y c = let at = place_of_contained (map f xs) y c in comes_at f xs at.k y at.there
 
 -- what an element of a list gives in a walk
 pub record IsGiven {X Y : Type 0} (f : ℕ → X → List Y) (k : ℕ) (xs : List X) (y : Y) : Type 0 where
@@ -69,7 +31,7 @@ pub record IsGiven {X Y : Type 0} (f : ℕ → X → List Y) (k : ℕ) (xs : Lis
   pub given : Contains (f (k + i) x) y
 
 pub given : {X Y : Type 0} (f : ℕ → X → List Y) (k : ℕ) (xs : List X) (y : Y) → Contains (walk f k xs) y → IsGiven f k xs y
-given f k [] y c = absurd (nothing_in y c)
+given f k [] y c = absurd (Contains-nil y c)
 given f k (x ∷ xs) y c = by (given f (suc k) xs y) (Contains-append_cases (f k x) (walk f (suc k) xs) y c) where
   by : (Contains (walk f (suc k) xs) y → IsGiven f (suc k) xs y) → Contains (f k x) y ⊎ Contains (walk f (suc k) xs) y → IsGiven f k (x ∷ xs) y
   by rest (inl here) = record { i = 0; x = x; there = refl; given = subst (λ n. Contains (f n x) y) (sym (add-zero k)) here }

@@ -1,6 +1,8 @@
 -- Metal is drawn as an obstruction of a component, as a rectangle of a blockage, as a shape of a terminal or as one of a wire.
 use Rattle.std.proofs.Common.{◌≡◌, ℕ, ◌+◌, ◌⊎◌, inl, inr, List, length, map, slice_get, Contains, Option, None, Some, refl, sym, ap, ◌∙◌, subst, zero-add, add-zero, arith}
 use Rattle.std.proofs.lemmas.List.Elements.{Contains-append_cases}
+use Rattle.leg_lemmas.proofs.Places.{contains_at}
+use Rattle.leg_lemmas.proofs.Contained.{Contains-nil}
 use Rattle.leg_geom.specs.declared.place.Place.{Place}
 use Rattle.leg_lib_records.specs.Records as library
 use Rattle.leg_design_records.specs.declared.records.Component.{Component}
@@ -15,11 +17,10 @@ use Rattle.leg_rules.specs.Metal.Nets.{number_of_special, terminals_of, wires_of
 use Rattle.leg_rules.specs.Metal.Metal.{OnLayer, Metal, belonging, drawn, pins_metal, component_metal, components_metal, ports_outlines, design_pins_metal, blockage_metal, blockages_metal, wire_outlines, wires_metal, nets_metal, specials_metal, metal_parts, metal_of}
 use Rattle.leg_rules.specs.Metal.Pieces.{IsOfTerminal, IsMetalOfPiece, of_piece}
 use Rattle.leg_flat.specs.Sources.{IsOfComponentObstruction, of_obstruction, IsOfBlockage, of_blockage, of_terminal_shape}
-use Rattle.leg_flat.proofs.NetOf.{contains_at}
 use Rattle.leg_flat.proofs.AllNets.{special_of}
 use Rattle.leg_flat.proofs.MetalWalks.{pin_metal, pins_walk, one_component, components_walk, design_pin_metal, design_pins_walk, rect_on, one_blockage, blockages_walk, wire_metal, wires_walk, net_metal, nets_walk, one_special, specials_walk}
 use Rattle.leg_flat.proofs.ListPlaces.{comes, given, given_at}
-use Rattle.leg_flat.proofs.Parts.{nothing_in, by_part}
+use Rattle.leg_flat.proofs.Parts.{by_part}
 use Rattle.leg_flat.proofs.PiecePlaces.{regular_wire, special_wire}
 
 -- What holds of each obstruction of a component, of each rectangle of a blockage, of each shape of a terminal and of each shape of
@@ -52,9 +53,9 @@ module _ (design : DesignModel) (has : HasNets design) (Q : Metal → Type 0)
   of_component c component m at there = by component.place refl (slice_get design.library.masters component.master) refl there where
     by : (place : Option Place) → component.place ≡ place → (master : Option library.MasterModel) → slice_get design.library.masters component.master ≡ master
         → Contains (component_metal design c place master) m → Q m
-    by None placed None is there = absurd (nothing_in m there)
-    by None placed (Some master) is there = absurd (nothing_in m there)
-    by (Some place) placed None is there = absurd (nothing_in m there)
+    by None placed None is there = absurd (Contains-nil m there)
+    by None placed (Some master) is there = absurd (Contains-nil m there)
+    by (Some place) placed None is there = absurd (Contains-nil m there)
     by (Some place) placed (Some master) is there =
         parts (Contains-append_cases (pins_metal design c place master.size 0 master.pins) obstructions m there) where
           obstructions : List Metal
@@ -90,7 +91,7 @@ module _ (design : DesignModel) (has : HasNets design) (Q : Metal → Type 0)
   of_blockage_at : (k : ℕ) (said : BlockageModel) (m : Metal) → slice_get design.blockages k ≡ Some said → Contains (one_blockage k said) m → Q m
   of_blockage_at k said m at there = by said.layer refl there where
     by : (layer : Option ℕ) → said.layer ≡ layer → Contains (blockage_metal k layer said.rects) m → Q m
-    by None is there = absurd (nothing_in m there)
+    by None is there = absurd (Contains-nil m there)
     by (Some layer) is there =
         let rects = map (rect_on layer) said.rects in
         let from = comes _ rects m there in

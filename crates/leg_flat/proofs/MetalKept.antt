@@ -1,7 +1,7 @@
 -- Numbers in registers, and shapes of metal that are one piece.
-use Rattle.std.proofs.Common.{◌≡◌, ◌↔◌, ℕ, ℤ, List, [], ◌∷◌, ◌++◌, Result, Ok, Err, OnOk, w64, to_z, of_z, refl, ◌∙◌, arith}
-use Rattle.std.proofs.lemmas.Int.{ints, to_z-of_z}
+use Rattle.std.proofs.Common.{◌≡◌, ◌↔◌, ℕ, ℤ, List, [], ◌∷◌, ◌++◌, Result, Ok, Err, OnOk, w64, to_z, of_z, refl, ◌∙◌}
 use Rattle.leg_lex.specs.Number.{IsNumber}
+use Rattle.leg_lex.proofs.InBits.{number_kept}
 use Rattle.leg_geom.specs.Plane.{PointModel, RectModel, IsRect, HasPoint}
 use Rattle.leg_lib_records.specs.Measure.{ExtentModel, IsExtent}
 use Rattle.leg_design_records.specs.declared.records.Wire.TheVariants.{Segment}
@@ -19,9 +19,6 @@ pub on_ok : {T E : Type 0} (r : Result T E) (P Q : Type 0) → (P → Q) → OnO
 on_ok (Ok x) P Q follows p = follows p
 on_ok (Err e) P Q follows p = tt
 
-pub kept_number : (z : ℤ) → IsNumber z → to_z w64 (of_z w64 z) ≡ z
-kept_number z n = grind (arith, ints, to_z-of_z)
-
 same_size : (w h : ℤ) (size : ExtentModel) → w ≡ size.width → h ≡ size.height → record { width = w; height = h } ≡ size
 same_size w h size e f = rw (e, f) refl
 
@@ -30,7 +27,7 @@ pub kept_size : (w h : ℤ) (size : ExtentModel) → w ≡ size.width → h ≡ 
 kept_size w h size e f is =
     let width : IsNumber w = rw e is.width in
     let height : IsNumber h = rw f is.height in
-    same_size _ _ size (kept_number w width ∙ e) (kept_number h height ∙ f)
+    same_size _ _ size (number_kept w width ∙ e) (number_kept h height ∙ f)
 
 -- a segment is one shape
 pub segment_adds : (design : DesignModel) (layer : ℕ) (from to : PointModel) (width ext_from ext_to : ℤ) (belongs : Belonging) (s after : List Shape)
@@ -40,9 +37,9 @@ pub segment_adds : (design : DesignModel) (layer : ℕ) (from to : PointModel) (
     → after ≡ s ++ record { layer = layer; rect = rect; owner = belongs.owner; component = belongs.component; piece = belongs.piece } ∷ []
     → AddsMetal (belonging belongs (wire_outlines design (Segment layer from to width ext_from ext_to))) s after
 segment_adds design layer from to width ext_from ext_to belongs s after rect proper is points grown =
-    let e = kept_number width is.wide.within in
-    let f = kept_number ext_from is.before.within in
-    let h = kept_number ext_to is.behind.within in
+    let e = number_kept width is.wide.within in
+    let f = number_kept ext_from is.before.within in
+    let h = number_kept ext_to is.behind.within in
     adds_one _ s after _ grown (record {
       layer = refl;
       proper = proper;

@@ -1,7 +1,7 @@
 -- What is known of the metal of a well-formed design under a sound library.
-use Rattle.std.proofs.Common.{◌≡◌, ℕ, ◌*◌, ℤ, List, ◌++◌, Option, None, Some, get_or, slice_get, All, subst, arith}
-use Rattle.std.proofs.lemmas.List.Elements.{All-append}
-use Rattle.std.proofs.lemmas.Option.{slice_get_within, get_or_from_slice_get}
+use Rattle.std.proofs.Common.{◌≡◌, ℕ, ◌*◌, ℤ, List, ◌++◌, Option, None, Some, slice_get, arith}
+use Rattle.std.proofs.lemmas.List.Elements.{All-append, All-weaker}
+use Rattle.leg_lemmas.proofs.Places.{all_at}
 use Rattle.leg_lex.specs.declared.limits.TheConstants.{NUMBER_LIMIT}
 use Rattle.leg_lex.specs.Number.{IsNumber}
 use Rattle.leg_geom.specs.Plane.{RectModel}
@@ -17,18 +17,10 @@ use Rattle.leg_lib_records.specs.Sound.{AreWithin, AreShapesWithin, IsSoundVia, 
 use Rattle.leg_flat.specs.Steps.Bounds.{IsSumWithin, IsDrawnWithin}
 use Rattle.leg_flat.specs.Steps.AddedMetal.{AreDrawnWithin, IsPlaceWithin, IsPortWithin}
 
--- what holds of each of a list, if something holds of each from which it follows
-pub all_follow : {X : Type 0} (P Q : X → Type 0) → ((x : X) → P x → Q x) → (xs : List X) → All P xs → All Q xs
-all_follow P Q follows xs all = λ k d less. follows (get_or xs k d) (all k d less)
-
--- what holds of each of a list holds of the one at a place
-pub all_at : {X : Type 0} (P : X → Type 0) (xs : List X) (i : ℕ) (x : X) → slice_get xs i ≡ Some x → All P xs → P x
-all_at P xs i x is all = subst P (get_or_from_slice_get xs i x x is) (all i x (slice_get_within xs i x is))
-
 sum_of_number : (z : ℤ) → IsNumber z → IsSumWithin z
 sum_of_number z n = omega (arith, n)
 
-drawn_of_sums : (s : Shape) → AreWithin (2 * NUMBER_LIMIT) s.rect → IsDrawnWithin s.rect
+pub drawn_of_sums : (s : Shape) → AreWithin (2 * NUMBER_LIMIT) s.rect → IsDrawnWithin s.rect
 drawn_of_sums s w = record { x1 = w.x1; y1 = w.y1; x2 = w.x2; y2 = w.y2 }
 
 drawn_of_numbers : (s : Shape) → AreWithin NUMBER_LIMIT s.rect → IsDrawnWithin s.rect
@@ -47,23 +39,24 @@ drawn_of_metal library s m = drawn_of_area s.rect m.rect
 
 -- shapes of a macro
 pub master_drawn : (shapes : List Shape) → AreShapesWithin (2 * NUMBER_LIMIT) shapes → AreDrawnWithin shapes
-master_drawn shapes all = all_follow (λ s. AreWithin (2 * NUMBER_LIMIT) s.rect) (λ s. IsDrawnWithin s.rect) drawn_of_sums shapes all
+master_drawn shapes all = All-weaker (λ s. AreWithin (2 * NUMBER_LIMIT) s.rect) (λ s. IsDrawnWithin s.rect) drawn_of_sums shapes all
 
 library_via_drawn : (via : ViaModel) → IsSoundVia via → AreDrawnWithin via.shapes
-library_via_drawn via all = all_follow (λ s. AreWithin NUMBER_LIMIT s.rect) (λ s. IsDrawnWithin s.rect) drawn_of_numbers via.shapes all
+library_via_drawn via all = All-weaker (λ s. AreWithin NUMBER_LIMIT s.rect) (λ s. IsDrawnWithin s.rect) drawn_of_numbers via.shapes all
 
 design_via_drawn : (library : LibraryModel) (via : ViaModel) → IsDesignVia library via → AreDrawnWithin via.shapes
-design_via_drawn library via is = all_follow (IsMetalShape library) (λ s. IsDrawnWithin s.rect) (drawn_of_metal library) via.shapes is.shapes
+design_via_drawn library via is = All-weaker (IsMetalShape library) (λ s. IsDrawnWithin s.rect) (drawn_of_metal library) via.shapes is.shapes
 
 -- shapes of a via, of the library or of the design
 pub via_drawn : (design : DesignModel) (number : ℕ) (via : ViaModel) → IsSound design.library → IsWellFormed design
     → slice_get (design.library.vias ++ design.vias) number ≡ Some via → AreDrawnWithin via.shapes
 via_drawn design number via sound proper is =
     let drawn = λ (v : ViaModel). AreDrawnWithin v.shapes in
-    all_at drawn (design.library.vias ++ design.vias) number via is
+    all_at drawn (design.library.vias ++ design.vias) number via
     (All-append drawn design.library.vias design.vias
-    (all_follow IsSoundVia drawn library_via_drawn design.library.vias sound.vias)
-    (all_follow (IsDesignVia design.library) drawn (design_via_drawn design.library) design.vias proper.vias.each))
+    (All-weaker IsSoundVia drawn library_via_drawn design.library.vias sound.vias)
+    (All-weaker (IsDesignVia design.library) drawn (design_via_drawn design.library) design.vias proper.vias.each))
+    is
 
 pub placed_within : (status : Status) (place : Option Place) → IsPlaced status place → IsPlaceWithin place
 placed_within status None is = tt
@@ -75,5 +68,5 @@ placed_within Cover (Some place) is = is
 pub port_within : (library : LibraryModel) (port : PortModel) → IsPort library port → IsPortWithin port
 port_within library port is = record {
   place = placed_within port.status port.place is.placed;
-  shapes = all_follow (IsMetalShape library) (λ s. IsDrawnWithin s.rect) (drawn_of_metal library) port.shapes is.shapes;
+  shapes = All-weaker (IsMetalShape library) (λ s. IsDrawnWithin s.rect) (drawn_of_metal library) port.shapes is.shapes;
 }

@@ -2,7 +2,8 @@
 use Rattle.std.proofs.Common.{◌≡◌, ◌⊎◌, inl, inr, ℕ, ℤ, pos, negsuc, Bool, true, false, List, Option, None, Some, slice_get, IsTrue, refl, sym, arith}
 use Rattle.std.specs.Ordering.{int_eq}
 use Rattle.std.proofs.lemmas.Int.{ints}
-use Rattle.std.proofs.lemmas.Bool.Decides.{Decides-int_eq}
+use Rattle.leg_lemmas.proofs.Integers.{eq_from_test}
+use Rattle.leg_lemmas.proofs.Places.{all_at}
 use Rattle.leg_geom.specs.Plane.{PointModel, halfway}
 use Rattle.leg_lib_records.specs.declared.records.LayerKind.{LayerKind}
 use Rattle.leg_lib_records.specs.declared.records.LayerKind.TheVariants.{Routing, Cut, Other}
@@ -17,20 +18,16 @@ use Rattle.leg_design_records.specs.WellFormedNets.{IsWidth, IsExtension, IsWire
 use Rattle.leg_lib_records.specs.Sound.{HasWidth, IsSoundLayer, IsSound}
 use Rattle.leg_flat.specs.Steps.Bounds.{IsMetalReach, IsWidthWithin}
 use Rattle.leg_flat.specs.Steps.AddedMetal.{IsWireWithin}
-use Rattle.leg_flat.proofs.MetalKnown.{all_at, drawn_of_area}
-
--- what an equality test of numbers says
-same_number : (x y : ℤ) → int_eq x y ≡ true → x ≡ y
-same_number x y is = (Decides-int_eq x y).0 is
+use Rattle.leg_flat.proofs.MetalKnown.{drawn_of_area}
 
 straight_line : (p q : PointModel) → IsTrue (is_straight p q) → (p.x ≡ q.x) ⊎ (p.y ≡ q.y)
 straight_line p q is = by (int_eq p.x q.x) refl where
   by : (b : Bool) → int_eq p.x q.x ≡ b → (p.x ≡ q.x) ⊎ (p.y ≡ q.y)
-  by true e = inl (same_number p.x q.x e)
-  by false e = inr (same_number p.y q.y (rw e at is))
+  by true e = inl (eq_from_test p.x q.x e)
+  by false e = inr (eq_from_test p.y q.y (rw e at is))
 
 even_of_test : (z : ℤ) → IsTrue (is_even z) → IsEven z
-even_of_test z is = (halfway (pos 0) z, sym (same_number _ z is))
+even_of_test z is = (halfway (pos 0) z, sym (eq_from_test _ z is))
 
 width_of_kind : (kind : LayerKind) (width : ℤ) → HasWidth kind → wire_width kind ≡ Some width → IsWidthWithin width
 width_of_kind (Routing direction w) width has is =
@@ -43,7 +40,7 @@ layer_width : (library : LibraryModel) (layer : ℕ) (width : ℤ) → IsSound l
 layer_width library layer width sound is = by (slice_get library.layers layer) refl where
   by : (o : Option Layer) → slice_get library.layers layer ≡ o → IsWidthWithin width
   by None none = absurd (let e : ⊥ = cc (rw none at is) in e)
-  by (Some l) there = width_of_kind l.kind width (all_at IsSoundLayer library.layers layer l there sound.layers).width (rw there at is)
+  by (Some l) there = width_of_kind l.kind width (all_at IsSoundLayer library.layers layer l sound.layers there).width (rw there at is)
 
 width_within : (library : LibraryModel) (special : Bool) (layer : ℕ) (width : ℤ) → IsSound library → IsWidth library special layer width → IsWidthWithin width
 width_within library false layer width sound is = layer_width library layer width sound is

@@ -1,6 +1,7 @@
 -- Each piece of the metal of a design is a rectangle.
 use Rattle.std.proofs.Common.{◌≡◌, ℕ, suc, Bool, true, false, List, [], ◌∷◌, ◌++◌, map, Option, None, Some, slice_get, All, refl}
-use Rattle.std.proofs.lemmas.List.Elements.{All-nil, All-cons, All-head, All-tail, All-same, All-append, All-map}
+use Rattle.std.proofs.lemmas.List.Elements.{All-nil, All-cons, All-head, All-tail, All-same, All-append, All-map, All-weaker}
+use Rattle.leg_lemmas.proofs.Places.{all_at}
 use Rattle.leg_lex.specs.Number.{IsNumber}
 use Rattle.leg_geom.specs.Plane.{PointModel, RectModel}
 use Rattle.leg_geom.specs.declared.place.Place.{Place}
@@ -22,7 +23,7 @@ use Rattle.leg_flat.specs.Steps.AddedMetal.{AreDrawnWithin, IsPlaceWithin}
 use Rattle.leg_flat.proofs.MoreMetal.{walk}
 use Rattle.leg_flat.proofs.Parts.{all_parts}
 use Rattle.leg_flat.proofs.MetalWalks.{pin_metal, pins_walk, one_component, components_walk, design_pin_metal, design_pins_walk, one_blockage, blockages_walk, wire_metal, wires_walk, net_metal, nets_walk, one_special, specials_walk, port_drawn, ports_drawn_walk}
-use Rattle.leg_flat.proofs.MetalKnown.{all_at, all_follow, master_drawn, via_drawn, placed_within, port_within, drawn_of_area}
+use Rattle.leg_flat.proofs.MetalKnown.{master_drawn, via_drawn, placed_within, port_within, drawn_of_area}
 use Rattle.leg_flat.proofs.MetalLines.{wire_within}
 use Rattle.leg_flat.proofs.OutlineRects.{HasRect, ArePlacedImages, IsBox, zero_number, line_has, drawn_has, shifted_has, rectangle_has}
 
@@ -59,23 +60,23 @@ record IsMasterOfBoxes (master : MasterModel) : Type 0 where
   pub proper : IsProperMaster master
 
 metal_proper : (library : LibraryModel) (shapes : List Shape) → All (IsMetalShape library) shapes → AreProperShapes shapes
-metal_proper library shapes all = all_follow (IsMetalShape library) (λ s. IsProper s.rect) (λ s is. is.rect.proper) shapes all
+metal_proper library shapes all = All-weaker (IsMetalShape library) (λ s. IsProper s.rect) (λ s is. is.rect.proper) shapes all
 
 blockage_rects : (k : ℕ) (layer : Option ℕ) (rects : List RectModel) → All IsArea rects → All IsRectMetal (blockage_metal k layer rects)
 blockage_rects k None rects are = All-nil IsRectMetal
 blockage_rects k (Some layer) rects are =
-    belonging_rects _ _ (All-map IsRectOn _ rects (all_follow IsArea _ (λ r is. rectangle_has r is) rects are))
+    belonging_rects _ _ (All-map IsRectOn _ rects (All-weaker IsArea _ (λ r is. rectangle_has r is) rects are))
 
 module _ (images : ArePlacedImages) where
   drawn_rects : (place : Place) (size : ExtentModel) (shapes : List Shape) → IsPosition place.at → IsNumber size.width → IsNumber size.height
       → AreBoxes shapes → All IsRectOn (drawn place size shapes)
   drawn_rects place size shapes there wide high boxes =
-      All-map IsRectOn _ shapes (all_follow (λ (s : Shape). IsBox s.rect) _ (λ s is. drawn_has images place size s.rect there wide high is) shapes boxes)
+      All-map IsRectOn _ shapes (All-weaker (λ (s : Shape). IsBox s.rect) _ (λ s is. drawn_has images place size s.rect there wide high is) shapes boxes)
 
   shifted_rects : (at : PointModel) (shapes : List Shape) → IsPosition at → AreBoxes shapes
       → All IsRectOn (map (λ s. record { layer = s.layer; outline = Shifted at s.rect }) shapes)
   shifted_rects at shapes there boxes =
-      All-map IsRectOn _ shapes (all_follow (λ (s : Shape). IsBox s.rect) _ (λ s is. shifted_has images at s.rect there is) shapes boxes)
+      All-map IsRectOn _ shapes (All-weaker (λ (s : Shape). IsBox s.rect) _ (λ s is. shifted_has images at s.rect there is) shapes boxes)
 
   pins_rects : (design : DesignModel) (c : ℕ) (place : Place) (master : MasterModel) → IsPosition place.at → IsMasterOfBoxes master
       → All IsRectMetal (walk (pin_metal design c place master.size) 0 master.pins)
@@ -112,8 +113,8 @@ module _ (images : ArePlacedImages) where
   module _ (design : DesignModel) (sound : IsSound design.library) (proper : IsProperLibrary design.library) (well : IsWellFormed design) where
     master_of_boxes : (number : ℕ) (master : MasterModel) → slice_get design.library.masters number ≡ Some master → IsMasterOfBoxes master
     master_of_boxes number master there = record {
-      sound = all_at IsSoundMaster design.library.masters number master there sound.masters;
-      proper = all_at IsProperMaster design.library.masters number master there proper.masters;
+      sound = all_at IsSoundMaster design.library.masters number master sound.masters there;
+      proper = all_at IsProperMaster design.library.masters number master proper.masters there;
     }
 
     components_rects : All IsRectMetal (components_metal design 0 design.components)
@@ -151,9 +152,10 @@ module _ (images : ArePlacedImages) where
     via_proper : (number : ℕ) (via : ViaModel) → slice_get (design.library.vias ++ design.vias) number ≡ Some via → AreProperShapes via.shapes
     via_proper number via there =
         let are = λ (v : ViaModel). AreProperShapes v.shapes in
-        all_at are (design.library.vias ++ design.vias) number via there
+        all_at are (design.library.vias ++ design.vias) number via
         (All-append are design.library.vias design.vias proper.vias
-        (all_follow (IsDesignVia design.library) are (λ v is. metal_proper design.library v.shapes is.shapes) design.vias well.vias.each))
+        (All-weaker (IsDesignVia design.library) are (λ v is. metal_proper design.library v.shapes is.shapes) design.vias well.vias.each))
+        there
 
     wire_rects : (special : Bool) (wire : Wire) → IsWire design.library design.vias special wire → All IsRectOn (wire_outlines design wire)
     wire_rects special (Segment layer from to width ext_from ext_to) is =

@@ -2,7 +2,9 @@
 use Rattle.std.proofs.Common.{◌≡◌, ℕ, ◌+◌, ◌<◌, ◌≤◌, Bool, not, List, length, length-append, get_or, map, slice_get, Option, Some, All, filter, refl, sym, ap, ◌∙◌, zero-add, arith}
 use Rattle.std.proofs.lemmas.List.FromFn.{get_or-map-range_with_len, length-map-range_with_len}
 use Rattle.std.proofs.lemmas.List.Sums.{length-filter, count_by-le-length}
-use Rattle.std.proofs.lemmas.Option.{get_or_from_slice_get, slice_get_read, slice_get_within, slice_get-map}
+use Rattle.std.proofs.lemmas.Option.{get_or_from_slice_get, slice_get_within, slice_get-map}
+use Rattle.std.proofs.lemmas.List.Elements.{All-weaker}
+use Rattle.leg_lemmas.proofs.Places.{read_at, all_at}
 use Rattle.leg_design_records.specs.declared.limits.TheConstants.{PART_LIMIT}
 use Rattle.leg_design_records.specs.declared.records.Terminal.{Terminal}
 use Rattle.leg_design_records.specs.declared.records.Wire.{Wire}
@@ -15,12 +17,7 @@ use Rattle.leg_flat.specs.Steps.Places.{NetsModel, AreNetsOf}
 use Rattle.leg_flat.specs.Steps.AddedMetal.{IsWireWithin}
 use Rattle.leg_flat.proofs.NetNumbers.{number_within}
 use Rattle.leg_flat.proofs.NetSizes.{few_of_entry, few_terminals, few_wires}
-use Rattle.leg_flat.proofs.MetalKnown.{all_at, all_follow}
 use Rattle.leg_flat.proofs.MetalLines.{wire_within}
-
--- an element that a loop reads stands at its place
-pub read_at : {X : Type 0} (items xs : List X) (i : ℕ) (x : X) → items ≡ xs → i < length items → x ≡ get_or items i x → slice_get xs i ≡ Some x
-read_at items xs i x same less is = rw (← same) (slice_get_read items (length items) i x refl less is)
 
 -- the same where contracts see each element by what it says
 pub read_said : {X Y : Type 0} (said : X → Y) (items : List X) (xs : List Y) (i : ℕ) (x : X)
@@ -32,8 +29,8 @@ read_said said items xs i x same less is =
 pub wires_within : (design : DesignModel) (special : Bool) (nets : List NetModel) (n : ℕ) (net : NetModel) (wires : List Wire) → IsSound design.library
     → All (IsNet design special) nets → slice_get nets n ≡ Some net → wires ≡ net.wires → All IsWireWithin wires
 wires_within design special nets n net wires sound each there is =
-    let known : IsNet design special net = all_at (IsNet design special) nets n net there each in
-    rw is (all_follow (IsWire design.library design.vias special) IsWireWithin (wire_within design.library design.vias special sound) net.wires known.wires)
+    let known : IsNet design special net = all_at (IsNet design special) nets n net each there in
+    rw is (All-weaker (IsWire design.library design.vias special) IsWireWithin (wire_within design.library design.vias special sound) net.wires known.wires)
 
 module _ (design : DesignModel) (has : HasNets design) where
   pub terminals_few : (n : ℕ) → length (terminals_of design n) ≤ PART_LIMIT

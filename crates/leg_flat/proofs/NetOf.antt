@@ -1,5 +1,5 @@
 -- Which net a terminal is in: a net's terminals are in that net, and in no other.
-use Rattle.std.proofs.Common.{◌≡◌, ℕ, zero, suc, ◌<◌, Bool, true, false, List, [], ◌∷◌, length, get_or, slice_get, Contains, Option, None, Some, refl, sym, ap, ◌∙◌, arith}
+use Rattle.std.proofs.Common.{◌≡◌, ℕ, zero, suc, ◌<◌, Bool, true, false, List, [], ◌∷◌, length, get_or, slice_get, Option, None, Some, refl, sym, ap, ◌∙◌, arith}
 use Rattle.std.proofs.lemmas.List.{get_or-map, length-map}
 use Rattle.std.proofs.lemmas.Option.{get_or_from_slice_get, slice_get_within, slice_get-get_or}
 use Rattle.leg_lex.specs.NameLookup.{place_of, AreApart}
@@ -51,10 +51,6 @@ not_listed_at t (first ∷ nets) none k net there =
           absurd (let e : ⊥ = cc in e)
       by rest false other None is zero there = let it : first ≡ net = cc in rw (← it) other
       by rest false other None is (suc k) there = rest is k net there
-
--- an element at a place
-pub contains_at : {X : Type 0} (xs : List X) (k : ℕ) (x : X) → slice_get xs k ≡ Some x → Contains xs x
-contains_at xs k x there = (k, slice_get_within xs k x there, get_or_from_slice_get xs k x x there)
 
 -- the entry of a name stands where the name does
 pub name_place : (nets : List NetModel) → AreApart (net_names nets) → (i : ℕ) (net : NetModel) → slice_get nets i ≡ Some net

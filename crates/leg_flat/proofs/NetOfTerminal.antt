@@ -2,6 +2,7 @@
 use Rattle.std.proofs.Common.{◌≡◌, ℕ, true, ◌++◌, slice_get, Contains, Option, None, Some, refl, sym, ◌∙◌}
 use Rattle.std.proofs.lemmas.Bool.{false≢true}
 use Rattle.std.proofs.lemmas.List.Elements.{Contains-append_left, Contains-append_right}
+use Rattle.leg_lemmas.proofs.Places.{contains_at}
 use Rattle.leg_lex.specs.NameLookup.{place_of}
 use Rattle.leg_design_records.specs.declared.records.Terminal.{Terminal}
 use Rattle.leg_design_records.specs.Terminals.{is_among}
@@ -10,7 +11,7 @@ use Rattle.leg_design_records.specs.WellFormedNets.{HasNets}
 use Rattle.leg_design_records.proofs.SameTerminal.{among_contains}
 use Rattle.leg_rules.specs.Metal.Nets.{number_of_special}
 use Rattle.leg_rules.specs.Metal.Owner.{listing_place, net_of}
-use Rattle.leg_flat.proofs.NetOf.{listed_at, not_listed_at, contains_at, name_place, one_of_name}
+use Rattle.leg_flat.proofs.NetOf.{listed_at, not_listed_at, name_place, one_of_name}
 
 module _ (design : DesignModel) (has : HasNets design) (t : Terminal) where
   -- entries that list the terminal, in one section or in both, have one name

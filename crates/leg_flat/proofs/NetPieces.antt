@@ -2,12 +2,13 @@
 use Rattle.std.proofs.Common.{◌≡◌, ℕ, suc, ◌+◌, ◌≤◌, Bool, true, false, not, List, [], ◌∷◌, ◌++◌, length, length-append, map, filter, Option, None, Some, is_none, option_map, Fits, w32, refl, sym, ap, ◌∙◌, arith}
 use Rattle.std.specs.List.{range_with_len}
 use Rattle.std.proofs.lemmas.List.{map-append, length-map}
+use Rattle.std.proofs.lemmas.Bool.{or_right}
 use Rattle.leg_design_records.specs.declared.limits.TheConstants.{PART_LIMIT}
 use Rattle.leg_design_records.specs.declared.records.Terminal.{Terminal}
 use Rattle.leg_design_records.specs.Terminals.{is_same_terminal, is_among}
 use Rattle.leg_design_records.specs.Records.{DesignModel}
 use Rattle.leg_design_records.specs.WellFormedNets.{HasNets}
-use Rattle.leg_design_records.proofs.SameTerminal.{same_itself, or-true}
+use Rattle.leg_design_records.proofs.SameTerminal.{same_itself}
 use Rattle.leg_rules.specs.declared.piece.Piece.{Piece}
 use Rattle.leg_rules.specs.declared.piece.Piece.TheVariants.{Term, Wire}
 use Rattle.leg_rules.specs.Metal.Nets.{special_entry, regular_entry, entry_terminals, entry_wires, terminals_of, wires_of, pieces_of}
@@ -24,7 +25,7 @@ filter_agrees : (p q : Terminal → Bool) (ts : List Terminal) → ((t : Termina
 filter_agrees p q [] agree = refl
 filter_agrees p q (t ∷ ts) agree =
     let here : p t ≡ q t = agree t (rw (same_itself t) refl) in
-    let rest : filter p ts ≡ filter q ts = filter_agrees p q ts (λ u among. agree u (or-true (is_same_terminal u t) (is_among u ts) among)) in
+    let rest : filter p ts ≡ filter q ts = filter_agrees p q ts (λ u among. agree u (or_right (is_same_terminal u t) (is_among u ts) among)) in
     rw (here, rest) refl
 
 filter_true : (ts : List Terminal) → filter (λ t. true) ts ≡ ts

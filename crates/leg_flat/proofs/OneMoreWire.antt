@@ -1,7 +1,6 @@
 -- A flat with a wire more keeps its limits.
-use Rattle.std.proofs.Common.{◌≡◌, ℕ, ◌+◌, ◌^◌, ◌<◌, ◌≤◌, Bool, true, false, not, ◌&&◌, List, [], ◌∷◌, ◌++◌, length, map, set, get_or, Some, Result, Ok, Err, sym, ap, subst, refl, ◌∙◌, arith}
+use Rattle.std.proofs.Common.{◌≡◌, ℕ, ◌+◌, ◌^◌, ◌<◌, ◌≤◌, Bool, true, false, not, ◌&&◌, List, [], ◌∷◌, ◌++◌, length, map, set, get_or, Some, sym, ap, subst, refl, ◌∙◌, arith}
 use Rattle.std.specs.List.{range_with_len}
-use Rattle.std.specs.Result.{OnErr}
 use Rattle.std.proofs.lemmas.Bool.{false≢true}
 use Rattle.std.proofs.lemmas.List.{length-append, length-map, length-set, append_assoc, set-get_or}
 use Rattle.std.proofs.lemmas.List.Elements.{All-weaker, All-set, All-get_or, All-append}
@@ -14,6 +13,7 @@ use Rattle.leg_lib_records.specs.Joins.{is_wiring_word}
 use Rattle.leg_lib_records.specs.References.{IsViaOf}
 use Rattle.leg_lib_records.specs.Records as library
 use Rattle.leg_lib_records.specs.declared.records.Shape as metal
+use Rattle.leg_lib_records.proofs.OneEach.{same_length}
 use Rattle.leg_design_records.specs.declared.limits.TheConstants.{PART_LIMIT}
 use Rattle.leg_design_records.specs.declared.records.Terminal.{Terminal}
 use Rattle.leg_design_records.specs.declared.records.Wire as records
@@ -29,7 +29,6 @@ use Rattle.leg_rules.specs.Metal.Metal.{wire_outlines}
 use Rattle.leg_flat.specs.Limits.{IsWithinLimits, ArePieces}
 use Rattle.leg_rules.specs.Metal.Flat.{FlatModel, IsShapeOf, pieces_with}
 use Rattle.leg_rules.specs.Metal.MoreWires.{wire_metal, HasOneMoreWire}
-use Rattle.leg_flat.proofs.FlatWithin.{same_length}
 use Rattle.leg_flat.proofs.LastPiece.{length_of_pieces}
 
 never_both : (b : Bool) → ¬ ((b && false) ≡ true)
@@ -142,10 +141,6 @@ module _ (before : FlatModel) (net : ℕ) (pieces : List Piece) (number : ℕ) (
 -- a net that keeps its pieces is as it was
 pub same_pieces : (nets : List (List Piece)) (net : ℕ) (now old : List Piece) → now ≡ old → old ≡ get_or nets net old → set nets net now ≡ nets
 same_pieces nets net now old same is = ap (set nets net) (same ∙ is) ∙ set-get_or nets net old
-
-pub on_err_anyway : {T E P : Type 0} (r : Result T E) → P → OnErr r P
-on_err_anyway (Ok done) holds = tt
-on_err_anyway (Err refusal) holds = holds
 
 pub has_pieces : (before : FlatModel) (net : ℕ) (pieces : List Piece) → IsWithinLimits before → net < length before.pieces
     → pieces ≡ get_or before.pieces net pieces

@@ -1,10 +1,13 @@
 -- Lines of metal, and segments of the grid: the interval along one and the interval across it make its rectangle.
-use Rattle.std.proofs.Common.{◌≡◌, ◌≢◌, ◌↔◌, ◌⊎◌, inl, inr, ℤ, ◌+ℤ◌, ◌-ℤ◌, ◌<ℤ◌, Option, None, Some, w64, to_z, of_z, refl, ◌∙◌, arith}
+use Rattle.std.proofs.Common.{◌≡◌, ◌≢◌, ◌↔◌, ◌⊎◌, inl, inr, ℤ, ◌+ℤ◌, ◌-ℤ◌, ◌<ℤ◌, Option, Some, w64, to_z, of_z, refl, ◌∙◌, arith}
 use Rattle.std.specs.Option.{IsSome, SomeIff}
-use Rattle.std.proofs.lemmas.Int.{ints, to_z-of_z}
-use Rattle.leg_geom.specs.Plane.{PointModel, RectModel, IsCoordinate, IsRect, HasPoint}
+use Rattle.std.proofs.lemmas.Int.{ints}
+use Rattle.leg_lemmas.proofs.Options.{there_where, value_there}
+use Rattle.leg_geom.specs.Plane.{PointModel, RectModel, IsRect, HasPoint}
 use Rattle.leg_geom.specs.Line.{Interval}
 use Rattle.leg_geom.specs.Steps.Intervals.{IsSpan, HasNumber}
+use Rattle.leg_geom.proofs.Coordinates.{coordinate_kept}
+use Rattle.leg_geom.proofs.Points.{same_spot, sides, same_sides}
 use Rattle.leg_rules.specs.Metal.Outline.{IsAlong, IsAcross, IsOfHorizontal, IsOfVertical}
 
 abbrev pub ends : ℤ → ℤ → Interval
@@ -44,12 +47,6 @@ along_down from to ext_from ext_to low high down l h z = (
       record { above = grind (arith, ints); below = grind (arith, ints) },
 )
 
-abbrev spot : ℤ → ℤ → PointModel
-spot x y = record { x = x; y = y }
-
-pub same_spot : (x y u v : ℤ) → x ≡ u → y ≡ v → spot x y ≡ spot u v
-same_spot x y u v e f = cc
-
 pub horizontal_points : (from to : PointModel) (width ext_from ext_to : ℤ) (r : RectModel) → from ≢ to → from.y ≡ to.y
     → RunsAlong from.x to.x ext_from ext_to (ends r.x1 r.x2) → RunsAcross from.y width (ends r.y1 r.y2) → (p : PointModel)
     → HasPoint r p ↔ (IsOfHorizontal from to width ext_from ext_to p ⊎ IsOfVertical from to width ext_from ext_to p)
@@ -86,14 +83,7 @@ vertical_points from to width ext_from ext_to r upright long across along p = (
   ],
 )
 
--- a coordinate is kept by a register
-pub kept : (z v : ℤ) → z ≡ v → IsCoordinate v → to_z w64 (of_z w64 z) ≡ v
-kept z v e near = grind (arith, ints, to_z-of_z)
-
 -- the rectangle of an interval along x and one along y
-abbrev sides : ℤ → ℤ → ℤ → ℤ → RectModel
-sides x1 y1 x2 y2 = record { x1 = x1; y1 = y1; x2 = x2; y2 = y2 }
-
 abbrev pub sides_of : Interval → Interval → RectModel
 sides_of x y = sides x.low y.low x.high y.high
 
@@ -104,20 +94,10 @@ IsRect-sides_of x y wide high = record { x1 = wide.low; y1 = high.low; x2 = wide
 abbrev kept_sides : Interval → Interval → RectModel
 kept_sides x y = sides (to_z w64 (of_z w64 x.low)) (to_z w64 (of_z w64 y.low)) (to_z w64 (of_z w64 x.high)) (to_z w64 (of_z w64 y.high))
 
-pub same_sides : (x1 y1 x2 y2 u1 v1 u2 v2 : ℤ) → x1 ≡ u1 → y1 ≡ v1 → x2 ≡ u2 → y2 ≡ v2 → sides x1 y1 x2 y2 ≡ sides u1 v1 u2 v2
-same_sides x1 y1 x2 y2 u1 v1 u2 v2 e f g h = cc
-
 kept_sides-is : (x y : Interval) → IsSpan x → IsSpan y → kept_sides x y ≡ sides_of x y
 kept_sides-is x y wide high =
-    same_sides _ _ _ _ _ _ _ _ (kept x.low _ refl wide.low) (kept y.low _ refl high.low) (kept x.high _ refl wide.high) (kept y.high _ refl high.high)
-
-pub there_where : {T : Type 0} (made : Option T) (P : Type 0) (v : T) → SomeIff made P v → P → IsSome made
-there_where None P v says p = absurd (says p)
-there_where (Some x) P v says p = refl
-
-pub which : {T : Type 0} (made : Option T) (P : Type 0) (v r : T) → SomeIff made P v → made ≡ Some r → r ≡ v
-which None P v r says is = cc
-which (Some x) P v r says is = let same = says.1 in cc
+    same_sides _ _ _ _ _ _ _ _ (coordinate_kept x.low _ refl wide.low) (coordinate_kept y.low _ refl high.low) (coordinate_kept x.high _ refl wide.high)
+    (coordinate_kept y.high _ refl high.high)
 
 -- what is made just where the rectangle is one, is there where both intervals have length
 pub is_made : (made : Option RectModel) (x y : Interval) → IsSpan x → IsSpan y → SomeIff made (IsRect (kept_sides x y)) (kept_sides x y) → IsSome made
@@ -126,4 +106,4 @@ is_made made x y wide high says = there_where made _ _ says (rw (kept_sides-is x
 -- and is that rectangle
 pub made_is : (made : Option RectModel) (r : RectModel) (x y : Interval) → IsSpan x → IsSpan y → SomeIff made (IsRect (kept_sides x y)) (kept_sides x y)
     → made ≡ Some r → r ≡ sides_of x y
-made_is made r x y wide high says is = which made _ _ r says is ∙ kept_sides-is x y wide high
+made_is made r x y wide high says is = value_there made _ _ r says is ∙ kept_sides-is x y wide high

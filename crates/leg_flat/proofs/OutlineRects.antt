@@ -9,13 +9,14 @@ use Rattle.leg_geom.specs.Plane.{PointModel, RectModel, IsCoordinate, IsSpot, Is
 use Rattle.leg_geom.specs.Line.{Interval, between}
 use Rattle.leg_geom.specs.Orientation.{placed, placed_rect, opposite, IsImage}
 use Rattle.leg_geom.specs.Steps.Intervals.{IsSpan}
+use Rattle.leg_geom.proofs.Points.{same_spot}
 use Rattle.leg_lib_records.specs.Measure.{ExtentModel, IsProper}
 use Rattle.leg_design_records.specs.WellFormedParts.{IsPosition, IsArea}
 use Rattle.leg_rules.specs.Metal.Outline.{Outline, HasPointOf}
 use Rattle.leg_rules.specs.Metal.Outline.Outline.{Drawn, Line, Shifted, Rectangle}
 use Rattle.leg_flat.specs.Steps.Bounds.{IsMetalReach, IsWidthWithin, IsLineWithin, IsDrawnWithin}
 use Rattle.leg_flat.proofs.Outlines.{StaysWithin-drawn}
-use Rattle.leg_flat.proofs.OutlineLines.{ends, RunsAlong, RunsAcross, along_up, along_down, sides_of, IsRect-sides_of, same_spot, horizontal_points, vertical_points}
+use Rattle.leg_flat.proofs.OutlineLines.{ends, RunsAlong, RunsAcross, along_up, along_down, sides_of, IsRect-sides_of, horizontal_points, vertical_points}
 
 -- some rectangle has exactly the points of the outline
 pub record HasRect (outline : Outline) : Type 0 where

@@ -1,13 +1,11 @@
 -- A list that is made of parts, one after another.
-use Rattle.std.proofs.Common.{◌≡◌, ℕ, zero, suc, ◌+◌, List, [], ◌∷◌, ◌++◌, length, slice_get, Contains, All, Some, ◌⊎◌, inl, inr, refl, sym, ap, ◌∙◌, subst, append_assoc, arith}
+use Rattle.std.proofs.Common.{◌≡◌, ℕ, zero, suc, ◌+◌, List, [], ◌∷◌, ◌++◌, length, slice_get, Contains, All, Some, ◌⊎◌, inl, inr, refl, sym, ap, ◌∙◌, subst, append_assoc}
 use Rattle.std.specs.List.{AllByRecursion, flat_map}
 use Rattle.std.proofs.lemmas.List.{append-nil, length-append}
 use Rattle.std.proofs.lemmas.List.Concat.{flat_map-append}
 use Rattle.std.proofs.lemmas.List.Elements.{Contains-append_left, Contains-append_right, Contains-append_cases, All-nil, All-append}
 use Rattle.std.proofs.lemmas.Option.{none-some, same_Some}
-
-pub nothing_in : {X : Type 0} (x : X) → Contains [] x → ⊥
-nothing_in x c = omega (arith, c.1)
+use Rattle.leg_lemmas.proofs.Contained.{Contains-nil}
 
 abbrev pub whole : {X : Type 0} → List (List X) → List X
 whole parts = flat_map (λ part. part) parts
@@ -23,7 +21,7 @@ from_part (first ∷ parts) (suc k) part x at c = Contains-append_right first (w
 
 -- what is in the whole is in some part: what follows for each part, follows
 pub by_part : {X : Type 0} (R : Type 0) (parts : List (List X)) (x : X) → AllByRecursion (λ part. Contains part x → R) parts → Contains (whole parts) x → R
-by_part R [] x each c = absurd (nothing_in x c)
+by_part R [] x each c = absurd (Contains-nil x c)
 by_part R (part ∷ parts) x each c = by (by_part R parts x each.1) (Contains-append_cases part (whole parts) x c) where
   by : (Contains (whole parts) x → R) → Contains part x ⊎ Contains (whole parts) x → R
   by rest (inl here) = each.0 here

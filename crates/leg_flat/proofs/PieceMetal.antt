@@ -1,6 +1,8 @@
 -- Each shape of a piece is metal with the numbers of its net and of the piece.
 use Rattle.std.proofs.Common.{◌≡◌, ℕ, ◌+◌, ◌⊎◌, inl, inr, List, ◌++◌, length, map, slice_get, Contains, Option, None, Some, refl, sym, ap, ◌∙◌, subst, arith}
 use Rattle.std.proofs.lemmas.List.Elements.{Contains-append_left, Contains-append_right}
+use Rattle.leg_lemmas.proofs.Places.{contains_at, InSecond}
+use Rattle.leg_lemmas.proofs.Contained.{Contains-map}
 use Rattle.leg_design_records.specs.declared.records.Terminal.{Terminal}
 use Rattle.leg_design_records.specs.declared.records.Terminal.TheVariants.{Comp, Pin}
 use Rattle.leg_design_records.specs.declared.records.Wire as records
@@ -16,11 +18,10 @@ use Rattle.leg_rules.specs.Metal.Owner.{net_of, owner_of, piece_of}
 use Rattle.leg_rules.specs.Metal.Metal.{OnLayer, Belonging, Metal, belonging, drawn, of_terminal, pins_metal, components_metal, ports_outlines, design_pins_metal, blockages_metal, wire_outlines, wires_metal, nets_metal, specials_metal, metal_parts, metal_of}
 use Rattle.leg_rules.specs.Metal.Pieces.{IsOfTerminal, IsMetalOfPiece, terminal_component, of_piece}
 use Rattle.leg_flat.specs.Sources.{IsOfComponentObstruction, of_obstruction, IsOfBlockage, of_blockage}
-use Rattle.leg_flat.proofs.NetOf.{contains_at}
 use Rattle.leg_flat.proofs.NetTerminals.{special_is}
 use Rattle.leg_flat.proofs.NetPlaces.{in_net}
 use Rattle.leg_flat.proofs.MetalWalks.{pin_metal, pins_walk, one_component, components_walk, design_pin_metal, design_pins_walk, rect_on, one_blockage, blockages_walk, wire_metal, wires_walk, net_metal, nets_walk, one_special, specials_walk}
-use Rattle.leg_flat.proofs.ListPlaces.{InSecond, goes, gives, gives_at}
+use Rattle.leg_flat.proofs.ListPlaces.{gives, gives_at}
 use Rattle.leg_flat.proofs.Parts.{from_part}
 use Rattle.leg_flat.proofs.PiecePlaces.{IsTerminalPiece, IsWirePiece, piece_cases, wire_cases}
 use Rattle.leg_flat.proofs.TerminalsOnce.{place_is}
@@ -59,7 +60,7 @@ module _ (design : DesignModel) where
       let m = with_belonging belongs metal in
       let shapes = drawn is.place is.master.size is.pin.shapes in
       let obstructions = belonging (record { owner = Obs c; component = Some c; piece = None }) (drawn is.place is.master.size is.master.obstructions) in
-      let pin : Contains (belonging belongs shapes) m = goes (with_belonging belongs) shapes metal is.draws in
+      let pin : Contains (belonging belongs shapes) m = Contains-map (with_belonging belongs) shapes metal is.draws in
       let pins : Contains (pins_metal design c is.place is.master.size 0 is.master.pins) m =
       gives_at (pin_metal design c is.place is.master.size) is.master.pins _ k is.pin m
       (pins_walk design c is.place is.master.size 0 is.master.pins) is.has_pin pin in
@@ -70,7 +71,7 @@ module _ (design : DesignModel) where
   terminal_metal (Pin p) metal is =
       let belongs = of_terminal design None (Pin p) in
       let m = with_belonging belongs metal in
-      let pin : Contains (belonging belongs (ports_outlines is.0.ports)) m = goes (with_belonging belongs) (ports_outlines is.0.ports) metal is.2 in
+      let pin : Contains (belonging belongs (ports_outlines is.0.ports)) m = Contains-map (with_belonging belongs) (ports_outlines is.0.ports) metal is.2 in
       from_pins design m
       (gives_at (design_pin_metal design) design.pins _ p is.0 m (design_pins_walk design 0 design.pins) is.1 pin)
 
@@ -80,7 +81,7 @@ module _ (design : DesignModel) where
       let belongs : Belonging = record { owner = Obs c; component = Some c; piece = None } in
       let m = with_belonging belongs metal in
       let shapes = drawn is.place is.master.size is.master.obstructions in
-      let obstruction : Contains (belonging belongs shapes) m = goes (with_belonging belongs) shapes metal is.draws in
+      let obstruction : Contains (belonging belongs shapes) m = Contains-map (with_belonging belongs) shapes metal is.draws in
       let whole : Contains (pins_metal design c is.place is.master.size 0 is.master.pins ++ belonging belongs shapes) m =
       Contains-append_right (pins_metal design c is.place is.master.size 0 is.master.pins) _ m obstruction in
       let component : Contains (one_component design c is.component) m = rw (is.has_place, is.has_master) whole in
@@ -94,8 +95,8 @@ module _ (design : DesignModel) where
       let shape = rect_on is.layer is.rect in
       let all = map (rect_on is.layer) is.blockage.rects in
       let m = with_belonging belongs shape in
-      let there : Contains all shape = goes (rect_on is.layer) is.blockage.rects is.rect is.has_rect in
-      let shapes : Contains (belonging belongs all) m = goes (with_belonging belongs) all shape there in
+      let there : Contains all shape = Contains-map (rect_on is.layer) is.blockage.rects is.rect is.has_rect in
+      let shapes : Contains (belonging belongs all) m = Contains-map (with_belonging belongs) all shape there in
       let one : Contains (one_blockage k is.blockage) m = rw is.has_layer shapes in
       rw is.is
       (from_blockages design m
@@ -109,7 +110,8 @@ module _ (design : DesignModel) where
       → Contains (wire_outlines design wire) metal → Contains (wires_metal design n piece wires) (with_belonging (of_wire n k) metal)
   wire_among n piece i k wires wire metal number at draws =
       let m = with_belonging (of_wire n (piece + i)) metal in
-      let one : Contains (wire_metal design n (piece + i) wire) m = goes (with_belonging (of_wire n (piece + i))) (wire_outlines design wire) metal draws in
+      let one : Contains (wire_metal design n (piece + i) wire) m =
+      Contains-map (with_belonging (of_wire n (piece + i))) (wire_outlines design wire) metal draws in
       let all : Contains (wires_metal design n piece wires) m =
       subst (λ ms. Contains ms m) (sym (wires_walk design n piece wires)) (gives (wire_metal design n) piece wires i wire m at one) in
       subst (λ p. Contains (wires_metal design n piece wires) (with_belonging (of_wire n p) metal)) (sym number) all

@@ -1,9 +1,10 @@
 -- Where the terminals and the wires of a net stand among its pieces.
-use Rattle.std.proofs.Common.{◌≡◌, ℕ, zero, suc, ◌+◌, ◌<◌, ◌⊎◌, inl, inr, Bool, true, false, List, [], ◌∷◌, ◌++◌, length, map, slice_get, Option, None, Some, refl, sym, ap, ◌∙◌, zero-add, arith}
+use Rattle.std.proofs.Common.{◌≡◌, ℕ, suc, ◌+◌, ◌<◌, ◌⊎◌, inl, inr, Bool, true, false, List, [], ◌∷◌, ◌++◌, length, map, slice_get, Option, None, Some, refl, sym, ap, ◌∙◌, arith}
 use Rattle.std.specs.List.{range_with_len}
 use Rattle.std.proofs.lemmas.List.{length-map}
-use Rattle.std.proofs.lemmas.List.FromFn.{get_or-range_with_len, length-range_with_len}
-use Rattle.std.proofs.lemmas.Option.{slice_get_within, slice_get-map, slice_get-get_or}
+use Rattle.std.proofs.lemmas.List.FromFn.{length-range_with_len}
+use Rattle.std.proofs.lemmas.Option.{slice_get_within, slice_get-map}
+use Rattle.leg_lemmas.proofs.Places.{get_first, get_second, get_cases, counted, mapped_at, InSecond}
 use Rattle.leg_design_records.specs.declared.records.Terminal.{Terminal}
 use Rattle.leg_design_records.specs.declared.records.Wire as records
 use Rattle.leg_design_records.specs.Terminals.{is_same_terminal}
@@ -13,7 +14,6 @@ use Rattle.leg_rules.specs.declared.piece.Piece.{Piece}
 use Rattle.leg_rules.specs.declared.piece.Piece.TheVariants.{Term, Wire}
 use Rattle.leg_rules.specs.Metal.Nets.{terminals_of, wires_of, pieces_of, regular_entry, special_entry, entry_wires}
 use Rattle.leg_rules.specs.Metal.Owner.{place_among}
-use Rattle.leg_flat.proofs.ListPlaces.{get_first, get_second, InSecond, get_cases}
 
 -- a terminal's place among others has it
 pub at_place : (t : Terminal) (ts : List Terminal) (k : ℕ) → place_among t ts ≡ Some k → slice_get ts k ≡ Some t
@@ -41,11 +41,6 @@ terminal_piece design n k t at =
     get_first (map Term (terminals_of design n)) (map Wire (range_with_len 0 (length (wires_of design n)))) k (Term t)
     (slice_get-map Term (terminals_of design n) k ∙ rw at refl)
 
-counted : (n k : ℕ) → k < n → slice_get (range_with_len 0 n) k ≡ Some k
-counted n k less =
-    slice_get-get_or (range_with_len 0 n) k 0 (omega (arith, length-range_with_len 0 n, less))
-    ∙ ap Some (get_or-range_with_len 0 n k 0 less ∙ zero-add k)
-
 -- the wire of a piece
 pub wire_piece : (design : DesignModel) (n j : ℕ) → j < length (wires_of design n)
     → slice_get (pieces_of design n) (length (terminals_of design n) + j) ≡ Some (Wire j)
@@ -68,11 +63,6 @@ pub record IsWirePiece (design : DesignModel) (n k : ℕ) (piece : Piece) : Type
   pub j : ℕ
   pub is : piece ≡ Wire j
   pub place : k ≡ length (terminals_of design n) + j
-
-mapped_at : {X Y : Type 0} (f : X → Y) (xs : List X) (k : ℕ) (y : Y) → slice_get (map f xs) k ≡ Some y → (x : X) × (slice_get xs k ≡ Some x) × (y ≡ f x)
-mapped_at f [] k y at = absurd (let e : ⊥ = omega (arith, slice_get_within [] k y at) in e)
-mapped_at f (x ∷ xs) zero y at = (x, refl, (let e : y ≡ f x = cc in e))
-mapped_at f (x ∷ xs) (suc k) y at = mapped_at f xs k y at
 
 numbered : (n k j : ℕ) → slice_get (range_with_len 0 n) k ≡ Some j → j ≡ k
 numbered n k j at =

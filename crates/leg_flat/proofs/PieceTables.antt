@@ -1,15 +1,10 @@
 -- A table of terminals.
-use Rattle.std.proofs.Common.{◌≡◌, ℕ, Bool, cond, List, [], ◌∷◌, Some, refl, sym, ◌∙◌}
-use Rattle.std.specs.Map.{lookup}
+use Rattle.std.proofs.Common.{◌≡◌, ℕ, Bool, cond, Some, refl, sym, ◌∙◌}
 use Rattle.std.specs.HashMap.{HashMap, get_by}
+use Rattle.leg_lemmas.proofs.Lookups.{lookup_agrees}
 use Rattle.leg_design_records.specs.declared.records.Terminal.{Terminal}
 use Rattle.leg_design_records.specs.Terminals.{is_same_terminal}
 use Rattle.leg_flat.specs.Steps.Places.{place_in}
-
--- tests that agree find the same
-lookup_agrees : {K X : Type 0} (p q : K → Bool) → ((k : K) → p k ≡ q k) → (es : List (K × X)) → lookup p es ≡ lookup q es
-lookup_agrees p q agree [] = refl
-lookup_agrees p q agree (e ∷ es) = rw (agree e.0, lookup_agrees p q agree es) refl
 
 -- two terminals are compared by a test that agrees with the definition's
 module _ {S : Type 0} (eq : Terminal → Terminal → Bool) (agree : (a b : Terminal) → eq a b ≡ is_same_terminal a b) where

@@ -5,6 +5,7 @@ use Rattle.std.proofs.lemmas.Bool.Decides.{nat_tests}
 use Rattle.std.proofs.lemmas.List.Elements.{filter_passes}
 use Rattle.std.proofs.lemmas.List.Kept.{AllPairs-filter}
 use Rattle.std.proofs.lemmas.Option.{slice_get_within, get_or_from_slice_get}
+use Rattle.leg_lemmas.proofs.Places.{get_cases, contains_at, InSecond, all_at}
 use Rattle.leg_design_records.specs.declared.records.Terminal.{Terminal}
 use Rattle.leg_design_records.specs.Terminals.{is_among}
 use Rattle.leg_design_records.specs.Records.{DesignModel, NetModel}
@@ -12,11 +13,8 @@ use Rattle.leg_design_records.specs.WellFormedNets.{HasNets, IsNet}
 use Rattle.leg_design_records.proofs.SameTerminal.{among_from}
 use Rattle.leg_rules.specs.Metal.Nets.{regular_entry, special_entry, entry_terminals, terminals_of}
 use Rattle.leg_rules.specs.Metal.Owner.{place_among}
-use Rattle.leg_flat.proofs.NetOf.{contains_at}
 use Rattle.leg_flat.proofs.NetTerminals.{special_is}
 use Rattle.leg_flat.proofs.PlacesAmong.{has_place}
-use Rattle.leg_flat.proofs.MetalKnown.{all_at}
-use Rattle.leg_flat.proofs.ListPlaces.{InSecond, get_cases}
 use Rattle.leg_flat.proofs.PiecePlaces.{at_place}
 
 -- an element stands at one place
@@ -39,7 +37,7 @@ module _ (design : DesignModel) (has : HasNets design) (n : ℕ) where
   regular_once = by (regular_entry design n) refl where
     by : (o : Option NetModel) → regular_entry design n ≡ o → AllPairs (λ t u. t ≢ u) (entry_terminals o)
     by None none = no_terminals
-    by (Some net) is = (all_at (IsNet design false) design.nets n net is has.nets.each).once
+    by (Some net) is = (all_at (IsNet design false) design.nets n net has.nets.each is).once
 
   special_once : AllPairs (λ t u. t ≢ u) (entry_terminals (special_entry design n))
   special_once = by (special_entry design n) refl where
@@ -47,7 +45,7 @@ module _ (design : DesignModel) (has : HasNets design) (n : ℕ) where
     by None none = no_terminals
     by (Some net) is =
         let of = special_is design has n net is in
-        (all_at (IsNet design true) design.special of.k net of.there has.special.each).once
+        (all_at (IsNet design true) design.special of.k net has.special.each of.there).once
 
   terminals_once : (i j : ℕ) (t : Terminal) → slice_get (terminals_of design n) i ≡ Some t → slice_get (terminals_of design n) j ≡ Some t → i ≡ j
   unfolding terminals_of
@@ -63,7 +61,7 @@ module _ (design : DesignModel) (has : HasNets design) (n : ℕ) where
 
     not_both : (k l : ℕ) → slice_get first k ≡ Some t → slice_get rest l ≡ Some t → ⊥
     not_both k l here there =
-        let new : is_new t ≡ true = all_at (λ u. is_new u ≡ true) rest l t there (filter_passes is_new (entry_terminals (special_entry design n))) in
+        let new : is_new t ≡ true = all_at (λ u. is_new u ≡ true) rest l t (filter_passes is_new (entry_terminals (special_entry design n))) there in
         let among : is_among t first ≡ true = among_from t first (contains_at first k t here) in
         false≢true (sym (ap not among) ∙ new)
 

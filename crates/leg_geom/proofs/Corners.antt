@@ -1,7 +1,8 @@
 -- A rectangle by its points.
-use Rattle.std.proofs.Common.{◌≡◌, ℤ, arith}
+use Rattle.std.proofs.Common.{◌≡◌, arith}
 use Rattle.std.proofs.lemmas.Int.{ints}
 use Rattle.leg_geom.specs.Plane.{PointModel, RectModel, IsRect, HasPoint, HasAllPoints}
+use Rattle.leg_geom.proofs.Points.{same_sides}
 
 abbrev pub lower_left : RectModel → PointModel
 lower_left r = record { x = r.x1; y = r.y1 }
@@ -14,12 +15,6 @@ HasPoint-lower_left r p = record { left = omega (arith, ints); right = omega (ar
 
 pub HasPoint-upper_right : (r : RectModel) → IsRect r → HasPoint r (upper_right r)
 HasPoint-upper_right r p = record { left = omega (arith, ints); right = omega (arith, ints); bottom = omega (arith, ints); top = omega (arith, ints) }
-
-abbrev pub sides : ℤ → ℤ → ℤ → ℤ → RectModel
-sides x1 y1 x2 y2 = record { x1 = x1; y1 = y1; x2 = x2; y2 = y2 }
-
-pub same_sides : (x1 y1 x2 y2 u1 v1 u2 v2 : ℤ) → x1 ≡ u1 → y1 ≡ v1 → x2 ≡ u2 → y2 ≡ v2 → sides x1 y1 x2 y2 ≡ sides u1 v1 u2 v2
-same_sides x1 y1 x2 y2 u1 v1 u2 v2 e f g h = cc
 
 -- rectangles with the same points have the same corners
 pub HasAllPoints-both : (a b : RectModel) → IsRect a → IsRect b → HasAllPoints a b → HasAllPoints b a → a ≡ b

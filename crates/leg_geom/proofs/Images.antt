@@ -8,8 +8,7 @@ use Rattle.leg_geom.specs.Line.{Interval, between}
 use Rattle.leg_geom.specs.Steps.Intervals.{IsSpan, HasNumber}
 use Rattle.leg_geom.specs.Orientation.{turned, placed, IsImage, opposite, placed_rect}
 use Rattle.leg_geom.proofs.Axes.{x_ends, y_ends, IsSpan-x_ends, IsSpan-y_ends}
-use Rattle.leg_geom.proofs.Corners.{same_sides}
-use Rattle.leg_geom.proofs.Points.{spot, same_spot}
+use Rattle.leg_geom.proofs.Points.{spot, same_spot, same_sides}
 
 -- the map takes some number of the interval to this one
 record FromNumber (map : ℤ → ℤ) (s : Interval) (z : ℤ) : Type 0 where

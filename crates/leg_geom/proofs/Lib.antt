@@ -1,5 +1,4 @@
--- Points and intervals
-mod Points
+-- Intervals
 mod Intervals
 mod Axes
 -- Rectangles by their points
@@ -8,4 +7,6 @@ mod Touching
 -- Turned and moved rectangles
 mod Images
 -- What the proofs of other crates cite
+pub mod Points
+pub mod Coordinates
 pub mod Gaps

@@ -1,18 +1,13 @@
 -- The design after components have taken places.
-use Rattle.std.proofs.Common.{◌≡◌, ℕ, zero, suc, ◌+◌, ◌<◌, List, [], ◌∷◌, ◌++◌, length, take, get_or, Option, None, Some, slice_get, All, refl, sym, ap, subst, ◌∙◌, arith}
+use Rattle.std.proofs.Common.{◌≡◌, ℕ, ◌+◌, ◌<◌, List, [], ◌∷◌, ◌++◌, length, take, get_or, Option, None, Some, slice_get, All, refl, sym, ap, subst, ◌∙◌}
 use Rattle.std.proofs.lemmas.List.{length-set, take_more}
+use Rattle.leg_lemmas.proofs.Places.{there_is}
 use Rattle.leg_geom.specs.declared.place.Place.{Place}
 use Rattle.leg_design_records.specs.Records.{DesignModel}
 use Rattle.leg_design_records.specs.declared.records.Component.{Component}
 use Rattle.leg_legal.specs.declared.taken.Taken.{Taken}
 use Rattle.leg_rules.specs.Legalise.Run.{placed_at, moved_to}
 use Rattle.leg_legal.specs.Steps.AfterPlaces.{CanTake, placed_if_any, placed_one, placed_all}
-
--- something stands at each number below the length
-pub there_is : {X : Type 0} (xs : List X) (i : ℕ) → i < length xs → (x : X) × (slice_get xs i ≡ Some x)
-there_is [] i below = absurd (omega arith)
-there_is (x ∷ xs) zero below = (x, refl)
-there_is (x ∷ xs) (suc i) below = there_is xs i (omega arith)
 
 -- one more component after others
 pub placed_more : (design : DesignModel) (taken : List Taken) (next : Taken)

@@ -2,6 +2,7 @@
 use Rattle.std.proofs.Common.{◌≡◌, ℕ, List, [], ◌∷◌, ◌++◌, Some, slice_get, sym, ◌∙◌, inl, inr, arith}
 use Rattle.std.proofs.lemmas.Bool.{cases_eq}
 use Rattle.std.proofs.lemmas.Option.{same_Some, none-some}
+use Rattle.leg_lemmas.proofs.Places.{contains_at}
 use Rattle.leg_geom.specs.Plane.{RectModel, ShareSquare}
 use Rattle.leg_geom.specs.declared.place.Place.{Place}
 use Rattle.leg_geom.proofs.Gaps.{ShareSquare-symmetric}
@@ -17,7 +18,6 @@ use Rattle.leg_design_records.specs.Movable.{IsMovable}
 use Rattle.leg_rules.specs.declared.position.Candidate.{Candidate}
 use Rattle.leg_rules.specs.Legalise.Free.{IsSettled, IsFree}
 use Rattle.leg_rules.specs.Legalise.Run.{placed_at, moved_to}
-use Rattle.leg_legal.proofs.Elements.{contains_at}
 use Rattle.leg_legal.proofs.OneMove.{elsewhere, is_here, box_here, box_elsewhere, movable_before, settled_before, taken_before}
 use Rattle.leg_legal.proofs.OnRow.{HasSoundRows, stands_on_row}
 

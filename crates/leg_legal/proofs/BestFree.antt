@@ -5,6 +5,7 @@ use Rattle.std.specs.Cmp.{both_ways}
 use Rattle.std.proofs.lemmas.Bool.{cases_lt, cases_eq, cases_order, false≢true}
 use Rattle.std.proofs.lemmas.Int.{ints, by_lt_z}
 use Rattle.std.proofs.lemmas.Option.{same_Some, slice_get_within}
+use Rattle.leg_lemmas.proofs.Places.{contains_at, all_at}
 use Rattle.leg_geom.specs.Plane.{RectModel, ShareSquare}
 use Rattle.leg_geom.proofs.Gaps.{ShareSquare-symmetric}
 use Rattle.leg_geom.specs.declared.orient.Orient.{Orient}
@@ -27,7 +28,6 @@ use Rattle.leg_rules.specs.Legalise.Places.{orient_if_placed, Takes, IsPlacedOn}
 use Rattle.leg_rules.specs.Legalise.Free.{IsSettled, IsTaken, IsFree, TakesBest}
 use Rattle.leg_rules.specs.Legalise.Refusals.{HasRowFor}
 use Rattle.leg_legal.specs.FreePlaces.{HasMacroSizes}
-use Rattle.leg_legal.proofs.Elements.{all_at, contains_at}
 use Rattle.leg_design_records.proofs.MovableOrNot.{movable_or_not}
 use Rattle.leg_legal.proofs.OnRow.{HasSoundRows}
 use Rattle.leg_legal.proofs.BestSeat.{same_many}

@@ -5,6 +5,7 @@ use Rattle.std.proofs.Math.Nat.{mul-le-mul_right, mod-eq-sub-div-mul, div-mul-le
 use Rattle.std.proofs.lemmas.Bool.{cases_lt, cases_eq}
 use Rattle.std.proofs.lemmas.Int.{ints, by_lt_z}
 use Rattle.std.proofs.lemmas.Option.{same_Some, slice_get-get_or, slice_get_within}
+use Rattle.leg_lemmas.proofs.Places.{all_at}
 use Rattle.leg_lex.specs.Number.{IsNumber}
 use Rattle.leg_geom.specs.Plane.{RectModel}
 use Rattle.leg_geom.specs.Gap.{apart}
@@ -36,7 +37,6 @@ use Rattle.leg_rules.specs.Legalise.Start.{start_of, distance}
 use Rattle.leg_rules.specs.Legalise.Places.{orient_if_placed, Takes}
 use Rattle.leg_rules.specs.Legalise.Refusals.{FitsSites, HasRowFor, IsUnsuited}
 use Rattle.leg_legal.specs.Steps.Seats.{IsWantedOf, IsFreeOf, IsBestPlace}
-use Rattle.leg_legal.proofs.Elements.{all_at}
 use Rattle.leg_legal.proofs.OnRow.{takes_fits}
 use Rattle.leg_legal.proofs.Misfits.{fits_from_rest, rest_from_fits, told, numbered, no_row_beyond, no_row_unfit}
 

@@ -1,7 +1,7 @@
 -- What the places that are chosen make of a design, and the causes of refusal.
 use Rattle.std.proofs.Common.{◌≡◌, List, [], ◌∷◌, length, refl, inl, inr, arith}
 use Rattle.std.proofs.lemmas.List.Elements.{All-nil}
-use Rattle.leg_sweep.proofs.Lists.{Contains-nil}
+use Rattle.leg_lemmas.proofs.Contained.{Contains-nil}
 use Rattle.leg_lib_records.specs.Sound.{IsSound}
 use Rattle.leg_design_records.specs.Records.{DesignModel}
 use Rattle.leg_design_records.specs.declared.fault.Fault.{Fault}

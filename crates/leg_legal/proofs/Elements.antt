@@ -1,31 +1,8 @@
 -- Elements of a list by their numbers, in a list in which one is another, and in one that has grown at its end.
-use Rattle.std.proofs.Common.{◌≡◌, ℕ, zero, suc, ◌-◌, List, [], ◌∷◌, ◌++◌, length, set, get_or, Some, slice_get, All, AllPairs, Contains, refl, ap, ◌∙◌, arith}
+use Rattle.std.proofs.Common.{◌≡◌, ◌-◌, List, [], ◌∷◌, ◌++◌, length, get_or, All, AllPairs, Contains, refl, ◌∙◌, arith}
 use Rattle.std.proofs.lemmas.List.{length-append, get_or_append_left, get_or-append_right}
-use Rattle.std.proofs.lemmas.Option.{slice_get_within, get_or_from_slice_get, none-some}
 
 module _ {X : Type 0} where
-  -- the element that was put there
-  pub set_same : (xs : List X) (i : ℕ) (x y : X) → slice_get xs i ≡ Some x → slice_get (set xs i y) i ≡ Some y
-  set_same [] i x y at = absurd (none-some x at)
-  set_same (z ∷ zs) zero x y at = refl
-  set_same (z ∷ zs) (suc i) x y at = set_same zs i x y at
-
-  -- every other one stays
-  pub set_other : (xs : List X) (i j : ℕ) (y : X) → (j ≡ i → ⊥) → slice_get (set xs i y) j ≡ slice_get xs j
-  set_other [] i j y apart = refl
-  set_other (z ∷ zs) zero zero y apart = absurd (apart refl)
-  set_other (z ∷ zs) zero (suc j) y apart = refl
-  set_other (z ∷ zs) (suc i) zero y apart = refl
-  set_other (z ∷ zs) (suc i) (suc j) y apart = set_other zs i j y (λ same. apart (ap suc same))
-
-  -- what stands at a number is in the list
-  pub contains_at : (xs : List X) (i : ℕ) (x : X) → slice_get xs i ≡ Some x → Contains xs x
-  contains_at xs i x at = (i, slice_get_within xs i x at, get_or_from_slice_get xs i x x at)
-
-  -- what holds of all holds of what stands at a number
-  pub all_at : (P : X → Type 0) (xs : List X) (i : ℕ) (x : X) → All P xs → slice_get xs i ≡ Some x → P x
-  all_at P xs i x each at = let is : get_or xs i x ≡ x = get_or_from_slice_get xs i x x at in rw is at (each i x (slice_get_within xs i x at))
-
   -- elements in order are in order without the last one
   pub pairs_before : (R : X → X → Type 0) (xs : List X) (x : X) → AllPairs R (xs ++ x ∷ []) → AllPairs R xs
   pairs_before R xs x pairs i j d below within =

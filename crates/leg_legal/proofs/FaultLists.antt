@@ -6,6 +6,7 @@ use Rattle.leg_design_records.specs.Records.{DesignModel}
 use Rattle.leg_design_records.specs.declared.fault.Fault.{Fault}
 use Rattle.leg_design_records.specs.declared.fault.Fault.TheVariants.{Overlap, Short}
 use Rattle.leg_design_records.specs.Violation.{kind_number, numbers_of, ComesBefore, IsListOf}
+use Rattle.leg_design_records.proofs.FaultNumbers.{lower_kind_first}
 use Rattle.leg_rules.specs.Placement.Violations.{IsPlacementViolation}
 use Rattle.leg_place.specs.Steps.ComponentFault.{fault_of}
 use Rattle.leg_place.proofs.PlaceFaults.{kind_below, component_below, overlap_there}
@@ -20,9 +21,6 @@ module _ (v w : Fault) (kinds : kind_number v ≡ kind_number w) where
 
   by_second : (numbers_of v).0 ≡ (numbers_of w).0 → (numbers_of v).1 < (numbers_of w).1 → ComesBefore v w
   by_second firsts below = record { kind = omega arith; first = λ same. omega arith; second = λ same also. below }
-
-by_kind : (v w : Fault) → kind_number v < kind_number w → ComesBefore v w
-by_kind v w below = record { kind = omega arith; first = λ same. absurd (omega arith); second = λ same firsts. absurd (omega arith) }
 
 module _ (design : DesignModel) (P : Fault → Type 0) (holds : (fault : Fault) → P fault → IsPlacementViolation design fault)
     (each : (fault : Fault) → HoldsOrNot (P fault)) where
@@ -136,7 +134,7 @@ module _ (design : DesignModel) (P : Fault → Type 0) (holds : (fault : Fault) 
       listing_same ComesBefore (IsOfKind IsOfNumber end) P
       (λ fault k. k.holds.has)
       (λ fault p. record { kind = kind_number fault; below = kind_below design fault (holds fault p); holds = record { is = refl; has = p } })
-      (listing_below ComesBefore IsOfNumber of_each_kind (λ j k v w below s t. by_kind v w (let s_is = s.is in let t_is = t.is in omega arith)) end)
+      (listing_below ComesBefore IsOfNumber of_each_kind (λ j k v w below s t. lower_kind_first v w (let s_is = s.is in let t_is = t.is in omega arith)) end)
 
   pub list_of : (faults : List Fault) × IsListOf P faults
   list_of = let found = all_kinds in (found.0, record { increasing = found.1.rising; each = found.1.each; all = found.1.all })

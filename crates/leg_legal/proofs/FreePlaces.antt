@@ -4,6 +4,8 @@ use Rattle.std.proofs.lemmas.Bool.{cases_lt, false≢true}
 use Rattle.std.proofs.lemmas.Int.{ints}
 use Rattle.std.proofs.lemmas.List.{get_or_append_left}
 use Rattle.std.proofs.lemmas.Option.{same_Some}
+use Rattle.std.proofs.Math.Nat.{mul-le-mul_right}
+use Rattle.leg_lemmas.proofs.Places.{all_at}
 use Rattle.leg_geom.specs.Plane.{PointModel, RectModel}
 use Rattle.leg_geom.specs.declared.place.Place.{Place}
 use Rattle.leg_lib_records.specs.Measure.{ExtentModel, HasArea, IsExtent}
@@ -15,7 +17,7 @@ use Rattle.leg_design_records.specs.WellFormedParts.{IsRow}
 use Rattle.leg_design_records.specs.declared.records.Row.{Row}
 use Rattle.leg_rules.specs.Placement.Box.{placed_box}
 use Rattle.leg_rules.specs.Placement.Sites.{IsOnSites}
-use Rattle.leg_place.proofs.OnSites.{IsWide, IsLevel, IsEdge, product_up, edge_is, level_from_on_sites, left_from_on_sites, right_from_on_sites}
+use Rattle.leg_place.proofs.OnSites.{IsWide, IsLevel, IsEdge, edge_is, level_from_on_sites, left_from_on_sites, right_from_on_sites}
 use Rattle.leg_rules.specs.Legalise.Preference.{IsTurned}
 use Rattle.leg_legal_sites.proofs.MacroBoxes.{upright_box, fitting_upright}
 use Rattle.leg_design_records.specs.Movable.{MayMove, IsMovable}
@@ -23,7 +25,6 @@ use Rattle.leg_rules.specs.Legalise.Start.{start_of, distance}
 use Rattle.leg_rules.specs.Legalise.Places.{orient_if_placed}
 use Rattle.leg_rules.specs.Legalise.Refusals.{IsStuck}
 use Rattle.leg_legal.specs.FreePlaces.{HasMacroSizes, IsFreePlace, HasFreePosition}
-use Rattle.leg_legal.proofs.Elements.{all_at}
 use Rattle.leg_legal.proofs.OnRow.{HasSoundRows, stands_on_row}
 use Rattle.leg_legal.proofs.RunSoFar.{AreMovable, IsSoFar, so_far}
 use Rattle.leg_legal.proofs.TheOrder.{order_movable}
@@ -82,7 +83,7 @@ module _ (row : Row) (site size : ExtentModel) (area : HasArea site) (has_area :
   in_order =
       elim (cases_lt left.k right.k) [
         | inl below ↦ below
-        | inr above ↦ absurd (omega (arith, ints, left_at, right_at, proper.wide, product_up right.k left.k n above))
+        | inr above ↦ absurd (omega (arith, ints, left_at, right_at, proper.wide, mul-le-mul_right n above))
       ]
 
   sum : left.k + (right.k - left.k) ≡ right.k

@@ -6,6 +6,7 @@ use Rattle.std.proofs.lemmas.Int.{ints}
 use Rattle.std.proofs.lemmas.List.{length-set, length-replicate, get_or-replicate}
 use Rattle.std.proofs.lemmas.List.Elements.{All-set}
 use Rattle.std.proofs.lemmas.Option.{same_Some, slice_get-get_or, slice_get_within}
+use Rattle.leg_lemmas.proofs.Places.{set_here, set_elsewhere}
 use Rattle.leg_geom.specs.Plane.{PointModel, RectModel}
 use Rattle.leg_geom.specs.declared.place.Place.{Place}
 use Rattle.leg_design_records.specs.Records.{DesignModel}
@@ -15,7 +16,6 @@ use Rattle.leg_rules.specs.Legalise.Run.{placed_at, moved_to}
 use Rattle.leg_rules.specs.Legalise.Start.{start_of, distance, distance_to, moved_by}
 use Rattle.leg_legal.specs.Steps.Distances.{IsMoveDistance, AreDistances}
 use Rattle.leg_legal.specs.Steps.AfterPlaces.{placed_one}
-use Rattle.leg_legal.proofs.Elements.{set_same, set_other}
 use Rattle.leg_legal.proofs.OneMove.{is_here, elsewhere}
 use Rattle.leg_legal.proofs.AfterPlaces.{placed_there}
 
@@ -70,13 +70,13 @@ module _ (before now : DesignModel) (each : List ℤ) (taken : Taken) (component
   distance_here old new at_old at_new =
       let same_old : old ≡ component = same_Some old component (sym at_old ∙ at) in
       let same_new : new ≡ placed_at current taken.place = is_here now taken.number current taken.place is_current new at_new in
-      set_same each taken.number (get_or each taken.number z) z was ∙ rw (same_old, same_new) (ap Some is)
+      set_here each taken.number (get_or each taken.number z) z was ∙ rw (same_old, same_new) (ap Some is)
 
   distance_elsewhere : (c : ℕ) (old new : Component) → (c ≡ taken.number → ⊥) → slice_get before.components c ≡ Some old
       → slice_get (moved_to now taken.number current taken.place).components c ≡ Some new
       → slice_get (set each taken.number z) c ≡ Some (pos (moved_by before.die old new))
   distance_elsewhere c old new apart at_old at_new =
-      set_other each taken.number c z apart ∙ known.distances c old new at_old
+      set_elsewhere each taken.number c z (λ same. apart (sym same)) ∙ known.distances c old new at_old
       (sym (elsewhere now taken.number current taken.place is_current c apart) ∙ at_new)
 
   moved : AreDistances before (moved_to now taken.number current taken.place) (set each taken.number z)

@@ -3,6 +3,7 @@ use Rattle.std.proofs.Common.{◌≡◌, ℕ, pos, ◌*◌, ◌≤◌, ◌*ℤ�
 use Rattle.std.proofs.Math.IntN.{pos-*ℤ-pos}
 use Rattle.std.proofs.Math.Nat.{mul-le-mul_left}
 use Rattle.std.proofs.lemmas.Int.{ints}
+use Rattle.leg_lemmas.proofs.Places.{all_at}
 use Rattle.leg_geom.specs.declared.orient.Orient.{Orient}
 use Rattle.leg_geom.specs.declared.place.Place.{Place}
 use Rattle.leg_lib_records.specs.Measure.{ExtentModel, HasArea, IsExtent}
@@ -12,7 +13,6 @@ use Rattle.leg_rules.specs.Placement.Sites.{Fits, IsOnRow}
 use Rattle.leg_rules.specs.declared.position.Candidate.{Candidate}
 use Rattle.leg_legal_sites.proofs.MacroBoxes.{macro_on_sites, fitting_upright}
 use Rattle.leg_rules.specs.Legalise.Places.{orient_if_placed, Takes, IsPlacedOn}
-use Rattle.leg_legal.proofs.Elements.{all_at}
 
 -- the sites of the library have area, and rows are as a design has them
 pub record HasSoundRows (design : DesignModel) : Type 0 where

@@ -3,6 +3,7 @@ use Rattle.std.proofs.Common.{◌≡◌, ℕ, List, [], ◌∷◌, ◌++◌, Som
 use Rattle.std.proofs.lemmas.Bool.{cases_eq}
 use Rattle.std.proofs.lemmas.List.Elements.{Contains-push_cases}
 use Rattle.std.proofs.lemmas.Option.{same_Some}
+use Rattle.leg_lemmas.proofs.Places.{set_here, set_elsewhere}
 use Rattle.leg_geom.specs.Plane.{RectModel}
 use Rattle.leg_geom.specs.declared.place.Place.{Place}
 use Rattle.leg_lib_records.specs.Records.{MasterModel}
@@ -12,16 +13,15 @@ use Rattle.leg_rules.specs.Placement.Box.{box_of, placed_box, HasBox}
 use Rattle.leg_design_records.specs.Movable.{IsMovable}
 use Rattle.leg_rules.specs.Legalise.Free.{IsSettled, IsTaken}
 use Rattle.leg_rules.specs.Legalise.Run.{placed_at, moved_to}
-use Rattle.leg_legal.proofs.Elements.{set_same, set_other}
 
 module _ (now : DesignModel) (c : ℕ) (component : Component) (place : Place) (at : slice_get now.components c ≡ Some component) where
   -- the component is there
   pub here : slice_get (moved_to now c component place).components c ≡ Some (placed_at component place)
-  here = set_same now.components c component (placed_at component place) at
+  here = set_here now.components c component (placed_at component place) at
 
   -- and every other one is what it was
   pub elsewhere : (d : ℕ) → (d ≡ c → ⊥) → slice_get (moved_to now c component place).components d ≡ slice_get now.components d
-  elsewhere d apart = set_other now.components c d (placed_at component place) apart
+  elsewhere d apart = set_elsewhere now.components c d (placed_at component place) (λ same. apart (sym same))
 
   -- what stands there is that component
   pub is_here : (other : Component) → slice_get (moved_to now c component place).components c ≡ Some other → other ≡ placed_at component place

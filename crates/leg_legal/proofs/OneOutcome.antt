@@ -3,7 +3,8 @@ use Rattle.std.proofs.Common.{◌≡◌, ◌≢◌, ℕ, ◌<◌, ℤ, pos, List
 use Rattle.std.proofs.lemmas.List.{same_lists}
 use Rattle.std.proofs.lemmas.List.Elements.{All-head, Contains-push_cases}
 use Rattle.std.proofs.lemmas.Option.{same_Some, get_or_from_slice_get}
-use Rattle.leg_sweep.proofs.Lists.{Contains-nil}
+use Rattle.leg_lemmas.proofs.Places.{contains_at, there_is}
+use Rattle.leg_lemmas.proofs.Contained.{Contains-nil}
 use Rattle.leg_geom.specs.Plane.{RectModel}
 use Rattle.leg_geom.specs.declared.place.Place.{Place}
 use Rattle.leg_design_records.specs.Records.{DesignModel}
@@ -25,9 +26,7 @@ use Rattle.leg_rules.specs.Legalise.SameButForPlaces.{IsSameButForPlaces}
 use Rattle.leg_rules.specs.Legalise.Moves.{total_of, greatest_of, AreMoves}
 use Rattle.leg_legal.specs.Refusals.{IsLegaliseRefusal}
 use Rattle.leg_rules.specs.Legalise.Refusals.{ConcernsStaying, IsStayingViolation, NoneStaying, HasRowFor, IsLeastUnsuited, AreSuited, IsStuck}
-use Rattle.leg_legal.proofs.Elements.{contains_at}
 use Rattle.leg_legal.proofs.RunSoFar.{AreMovable, IsSoFar, so_far, earlier_movable, last_fresh}
-use Rattle.leg_legal.proofs.AfterPlaces.{there_is}
 use Rattle.leg_legal.proofs.TheOrder.{order_unique, order_movable}
 use Rattle.leg_legal.proofs.TheRun.{run_same}
 use Rattle.leg_legal.proofs.OneList.{one_list}

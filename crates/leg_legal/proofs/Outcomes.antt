@@ -5,7 +5,8 @@ use Rattle.std.proofs.lemmas.Bool.{cases_lt}
 use Rattle.std.proofs.lemmas.Int.{ints, by_lt_z}
 use Rattle.std.proofs.lemmas.List.Elements.{All-head, All-contains, Contains-append_right}
 use Rattle.std.proofs.lemmas.Option.{slice_get_within}
-use Rattle.leg_sweep.proofs.Lists.{Contains-nil, Contains-here}
+use Rattle.leg_lemmas.proofs.Places.{all_at}
+use Rattle.leg_lemmas.proofs.Contained.{Contains-nil, Contains-here}
 use Rattle.leg_lib_records.specs.Measure.{IsExtent, HasArea}
 use Rattle.leg_lib_records.specs.Records.{MasterModel}
 use Rattle.leg_lib_records.specs.Sound.{IsSound}
@@ -24,7 +25,6 @@ use Rattle.leg_rules.specs.Legalise.Refusals.{IsStayingViolation, NoneStaying, I
 use Rattle.leg_legal.specs.FreePlaces.{HasMacroSizes}
 use Rattle.leg_legal.specs.Outcome.{HasOutcome}
 use Rattle.leg_legal.specs.Steps.Boxes.{IsStuckAt}
-use Rattle.leg_legal.proofs.Elements.{all_at}
 use Rattle.leg_legal.proofs.OnRow.{HasSoundRows}
 use Rattle.leg_design_records.proofs.MovableOrNot.{movable_or_not}
 use Rattle.leg_legal.proofs.Misfits.{told, numbered}

@@ -1,9 +1,10 @@
 -- Whether a macro at a place is on sites of a row, and whether it fits some row.
 use Rattle.std.proofs.lemmas.List.Elements.{All-contains}
-use Rattle.std.proofs.Common.{◌≡◌, ℕ, ◌+◌, ◌<◌, ℤ, pos, ◌+ℤ◌, ◌*ℤ◌, ◌≤ℤ◌, ◌%◌, unsigned_abs, List, length, Some, slice_get, Contains, inl, inr, refl, sym, subst, ◌∙◌, arith, ◌⊎◌, ◌<ℤ◌}
+use Rattle.std.proofs.Common.{◌≡◌, ℕ, ◌+◌, ◌<◌, ℤ, pos, ◌+ℤ◌, ◌*ℤ◌, ◌≤ℤ◌, ◌%◌, unsigned_abs, List, length, Some, slice_get, Contains, inl, inr, sym, subst, ◌∙◌, arith, ◌⊎◌, ◌<ℤ◌}
 use Rattle.std.proofs.lemmas.Bool.{cases_eq}
 use Rattle.std.proofs.lemmas.Int.{ints, by_lt_z}
-use Rattle.std.proofs.lemmas.Option.{same_Some, slice_get_read, slice_get_within}
+use Rattle.std.proofs.lemmas.Option.{same_Some, slice_get_within}
+use Rattle.leg_lemmas.proofs.Places.{contains_at, all_at, place_of_contained}
 use Rattle.leg_geom.specs.Plane.{RectModel}
 use Rattle.leg_geom.specs.declared.place.Place.{Place}
 use Rattle.leg_lib_records.specs.declared.records.Site.{Site}
@@ -16,15 +17,10 @@ use Rattle.leg_rules.specs.Placement.Box.{placed_box}
 use Rattle.leg_rules.specs.Placement.Sites.{IsOnSites, IsOnRow}
 use Rattle.leg_place.proofs.OnSites.{IsEdge, on_sites_from_edges, level_from_on_sites, left_from_on_sites, right_from_on_sites, IsWide}
 use Rattle.leg_rules.specs.Legalise.Refusals.{FitsSites, HasRowFor}
-use Rattle.leg_legal.proofs.Elements.{all_at, contains_at}
 use Rattle.leg_legal.proofs.OnRow.{HasSoundRows}
 use Rattle.leg_legal.proofs.Misfits.{fits_from_rest, rest_from_fits, no_row_unfit}
 use Rattle.leg_legal.proofs.Decisions.{HoldsOrNot, by_other, same_or_not, there_or_not, some_below}
 use Rattle.leg_legal.proofs.Orientations.{fits_or_not}
-
--- what a list contains stands at a number
-pub number_of : {X : Type 0} (xs : List X) (x : X) → Contains xs x → (k : ℕ) × (slice_get xs k ≡ Some x)
-number_of xs x has = (has.0, slice_get_read xs (length xs) has.0 x refl has.1 (sym has.2))
 
 -- the element of this number has a property
 StandsThere : {X : Type 0} → (X → Type 0) → List X → ℕ → Type 0
@@ -48,7 +44,7 @@ some_element {X} P xs each = by_other there back (some_below (StandsThere P xs) 
   there s = (s.2.0, contains_at xs s.0 s.2.0 s.2.1, s.2.2)
 
   back : (x : X) × Contains xs x × P x → (k : ℕ) × (k < length xs) × StandsThere P xs k
-  back s = let at = number_of xs s.0 s.1 in (at.0, slice_get_within xs at.0 s.0 at.1, (s.0, at.1, s.2))
+  back s = let at = place_of_contained xs s.0 s.1 in (at.k, slice_get_within xs at.k s.0 at.there, (s.0, at.there, s.2))
 
 -- a site of the row begins or ends at this x, or none does
 edge_or_not : (row : Row) (size : ExtentModel) (x : ℤ) → HoldsOrNot (IsEdge row size x)

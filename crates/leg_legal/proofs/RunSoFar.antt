@@ -4,12 +4,12 @@ use Rattle.std.proofs.lemmas.Bool.{cases_eq}
 use Rattle.std.proofs.lemmas.List.{length-set}
 use Rattle.std.proofs.lemmas.List.Elements.{Contains-push, Contains-push_cases, Contains-append_left, All-contains}
 use Rattle.std.proofs.lemmas.Option.{same_Some}
+use Rattle.leg_lemmas.proofs.Contained.{Contains-nil}
 use Rattle.leg_geom.specs.declared.place.Place.{Place}
 use Rattle.leg_design_records.specs.Records.{DesignModel}
 use Rattle.leg_design_records.specs.declared.fault.Fault.{Fault}
 use Rattle.leg_design_records.specs.declared.fault.Fault.TheVariants.{Unplaced, Outside, OffSite, Overlap, Blocked, Short, TooNear, OpenNet}
 use Rattle.leg_design_records.specs.declared.records.Component.{Component}
-use Rattle.leg_sweep.proofs.Lists.{Contains-nil}
 use Rattle.leg_design_records.specs.Movable.{IsMovable}
 use Rattle.leg_rules.specs.Legalise.Run.{placed_at, moved_to, LegaliseRun}
 use Rattle.leg_rules.specs.Legalise.Run.LegaliseRun.{none, one}

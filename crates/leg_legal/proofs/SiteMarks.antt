@@ -4,10 +4,10 @@ use Rattle.std.proofs.Math.ListN.{replicate}
 use Rattle.std.proofs.lemmas.Bool.{false≢true, cases_lt, cases_eq}
 use Rattle.std.proofs.lemmas.List.{length-set, length-replicate, get_or-replicate}
 use Rattle.std.proofs.lemmas.Option.{same_Some, slice_get-get_or, slice_get_within, slice_get_read, get_or_from_slice_get}
+use Rattle.leg_lemmas.proofs.Places.{contains_at, set_here, set_elsewhere}
 use Rattle.leg_design_records.specs.Records.{DesignModel}
 use Rattle.leg_design_records.specs.declared.records.Row.{Row}
 use Rattle.leg_legal.specs.Steps.SiteMarks.{HasRow, HasRowBelow, AreSiteMarksBelow, AreSiteMarks}
-use Rattle.leg_legal.proofs.Elements.{set_same, set_other, contains_at}
 
 -- no mark is set among equal ones
 none_set : (n number : ℕ) → slice_get (replicate n false) number ≡ Some true → ⊥
@@ -47,9 +47,10 @@ module _ (design : DesignModel) where
         record {
           count = length-set marks row.site true ∙ known.count;
           each = λ number. elim (cases_eq number row.site) [
-            | inl same ↦ rw same (λ at. here, λ has. set_same marks row.site (get_or marks row.site true) true (slice_get-get_or marks row.site true marked))
+            | inl same ↦ rw same (λ at. here, λ has. set_here marks row.site (get_or marks row.site true) true (slice_get-get_or marks row.site true marked))
             | inr differs ↦
-                let stays : slice_get (set marks row.site true) number ≡ slice_get marks number = set_other marks row.site number true differs in
+                let stays : slice_get (set marks row.site true) number ≡ slice_get marks number =
+                set_elsewhere marks row.site number true (λ same. differs (sym same)) in
                 rw stays (λ at. later number ((known.each number).0 at), λ has. (known.each number).1 (earlier number differs has))
           ];
         }

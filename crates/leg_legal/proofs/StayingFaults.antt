@@ -1,9 +1,10 @@
 -- The violations that concern only components that stay, by marks.
 use Rattle.std.proofs.Common.{◌≡◌, ◌↔◌, ℕ, ◌+◌, ◌<◌, Bool, true, false, not, IsTrue, List, [], ◌∷◌, ◌++◌, length, Some, slice_get, refl, sym, ap, ◌∙◌, inl, inr, arith}
 use Rattle.std.proofs.lemmas.Bool.{cases_lt, false≢true}
-use Rattle.std.proofs.lemmas.List.{length_push, get_or_push, get_or_append_left}
+use Rattle.std.proofs.lemmas.List.{length_push, get_or_push}
 use Rattle.std.proofs.lemmas.List.Elements.{All-weaker}
 use Rattle.std.proofs.lemmas.Option.{same_Some, slice_get_within, slice_get-get_or}
+use Rattle.leg_lemmas.proofs.Places.{in_first}
 use Rattle.leg_design_records.specs.Records.{DesignModel}
 use Rattle.leg_design_records.specs.declared.fault.Fault.{Fault}
 use Rattle.leg_design_records.specs.Violation.{IsListOf}
@@ -18,12 +19,6 @@ use Rattle.leg_legal.specs.Steps.Marks.{AreMarksBelow}
 mark_of : (b : Bool) {Moves : Type 0} → IsTrue b ↔ Moves → (not b ≡ true) ↔ (Moves → ⊥)
 mark_of true test = (λ t. absurd (false≢true t), λ stays. absurd (stays (test.0 refl)))
 mark_of false test = (λ t m. false≢true (test.1 m), λ stays. refl)
-
--- what stands in a list that grows at its end
-get_front : {X : Type 0} (xs : List X) (x : X) (i : ℕ) → i < length xs → slice_get (xs ++ x ∷ []) i ≡ slice_get xs i
-get_front xs x i within =
-    let longer : i < length (xs ++ x ∷ []) = rw (length_push xs x) (omega (arith, within)) in
-    slice_get-get_or (xs ++ x ∷ []) i x longer ∙ ap Some (get_or_append_left xs (x ∷ []) x i within) ∙ sym (slice_get-get_or xs i x within)
 
 get_last : {X : Type 0} (xs : List X) (x : X) (i : ℕ) → length xs ≡ i → slice_get (xs ++ x ∷ []) i ≡ Some x
 get_last xs x i count =
@@ -49,7 +44,8 @@ module _ (design : DesignModel) where
     count = length_push marks (not b) ∙ (let n = are.count in omega (arith, n));
     each = λ c below. elim (cases_lt c i) [
       | inl earlier ↦
-          let front : slice_get (marks ++ not b ∷ []) c ≡ slice_get marks c = get_front marks (not b) c (let n = are.count in omega (arith, n, earlier)) in
+          let front : slice_get (marks ++ not b ∷ []) c ≡ slice_get marks c =
+          in_first marks (not b ∷ []) c (let n = are.count in omega (arith, n, earlier)) in
           rw front (are.each c earlier)
       | inr late ↦
           let here : c ≡ i = omega (arith, below, late) in

@@ -2,7 +2,6 @@
 use Rattle.std.proofs.Common.{◌≡◌, ℕ, List, slice_get, refl, sym, ap, ◌∙◌, arith}
 use Rattle.std.proofs.lemmas.Int.{ints}
 use Rattle.std.proofs.lemmas.Option.{same_Some}
-use Rattle.leg_sweep.proofs.Lists.{same_rising}
 use Rattle.leg_design_records.specs.Records.{DesignModel}
 use Rattle.leg_design_records.specs.declared.records.Component.{Component}
 use Rattle.leg_design_records.specs.Movable.{IsMovable}
@@ -10,6 +9,7 @@ use Rattle.leg_rules.specs.Legalise.Start.{start_of}
 use Rattle.leg_rules.specs.Legalise.Turns.{Turn, IsEarlier, HasTurn, IsTakenBefore, IsOrderOfTaking}
 use Rattle.leg_legal.proofs.RunSoFar.{AreMovable}
 use Rattle.std.proofs.lemmas.List.Elements.{All-contains}
+use Rattle.leg_lemmas.proofs.Rising.{same_rising}
 
 -- a component has one turn
 one_turn : (design : DesignModel) (c : ℕ) (a b : Turn) → HasTurn design c a → HasTurn design c b → a ≡ b

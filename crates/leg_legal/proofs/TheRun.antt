@@ -2,6 +2,7 @@
 use Rattle.std.proofs.Common.{◌≡◌, ℕ, List, Option, None, Some, refl, sym, ◌∙◌, inl, inr}
 use Rattle.std.proofs.lemmas.List.Elements.{All-contains}
 use Rattle.std.proofs.lemmas.Option.{same_Some}
+use Rattle.leg_lemmas.proofs.Places.{all_at}
 use Rattle.leg_geom.specs.declared.place.Place.{Place}
 use Rattle.leg_design_records.specs.Records.{DesignModel}
 use Rattle.leg_design_records.specs.WellFormedParts.{IsPlaced, IsComponent}
@@ -19,7 +20,6 @@ use Rattle.leg_rules.specs.Legalise.Turns.{IsOrderOfTaking}
 use Rattle.leg_rules.specs.Legalise.Run.{LegaliseRun}
 use Rattle.leg_rules.specs.Legalise.SameButForPlaces.{IsPlacedAnew, IsSameButForPlaces}
 use Rattle.leg_rules.specs.Legalise.Refusals.{NoneStaying}
-use Rattle.leg_legal.proofs.Elements.{all_at}
 use Rattle.leg_design_records.proofs.MovableOrNot.{movable_or_not}
 use Rattle.leg_legal.proofs.OnRow.{HasSoundRows}
 use Rattle.leg_legal.proofs.AmongSettled.{ConcernsSettled}

@@ -3,6 +3,7 @@ use Rattle.std.proofs.Common.{◌≡◌, ◌⊎◌, ℕ, ◌+◌, ◌*◌, ◌<�
 use Rattle.std.proofs.lemmas.Bool.{false≢true}
 use Rattle.std.proofs.lemmas.Int.{ints}
 use Rattle.std.proofs.lemmas.Option.{same_Some, none-some}
+use Rattle.leg_lemmas.proofs.Places.{all_at}
 use Rattle.leg_lib_records.specs.declared.records.Site.{Site}
 use Rattle.leg_design_records.specs.Records.{DesignModel}
 use Rattle.leg_design_records.specs.WellFormedParts.{IsRow}
@@ -22,7 +23,6 @@ use Rattle.leg_legal_sites.specs.Steps.TreeOfRows.{IsLeafBeneath}
 use Rattle.leg_legal_sites.specs.Steps.Bounds.{HasNone, IsBetterThan, IsBetterThanAll, AreNoBetter}
 use Rattle.leg_legal_sites.specs.Steps.RowPositions.{IsCandidateOf, IsCandidateBeneath, IsBestOrBeneath}
 use Rattle.leg_legal_sites.proofs.BestSoFar.{no_worse_itself, no_worse_than_worse, best_of_both, best_of_same}
-use Rattle.leg_legal_sites.proofs.ListPlaces.{of_all}
 use Rattle.leg_legal_sites.proofs.RowBounds.{edges_rise}
 use Rattle.leg_legal_sites.proofs.RowTree.{leaf_alone, beneath_either, beneath_left, beneath_right}
 
@@ -108,7 +108,7 @@ module _ (design : DesignModel) (proper : All (IsRow design.library) design.rows
   -- the site of a position's row, which is the component's
   row_at : (d : Candidate) (is : IsCandidate design.rows free wanted d) → (site : Site) × IsRowAt design d.row is.row site
   row_at d is =
-      let has = of_all (IsRow design.library) design.rows d.row is.row proper is.there in
+      let has = all_at (IsRow design.library) design.rows d.row is.row proper is.there in
       (has.site, record { there = is.there; sited = has.there })
 
   module _ (node : ℕ) (bounds : Bounds) (fits : (key : RowKey) → IsLeafBeneath order node key → DoFit design free bounds key.row) (d : Candidate)

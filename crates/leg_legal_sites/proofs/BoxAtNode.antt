@@ -1,11 +1,12 @@
 -- Rows that have one list together, once a rectangle is taken from it.
-use Rattle.std.proofs.Common.{◌≡◌, ◌⊎◌, ◌↔◌, ℕ, ◌+◌, ◌/◌, ◌<◌, ◌≤◌, ℤ, int_lt, ◌<ℤ◌, true, List, [], length, get_or, set, Option, None, Some, slice_get, All, inl, inr, refl, sym, ap, ◌∙◌, arith, length-set, get_or-set_other}
+use Rattle.std.proofs.Common.{◌≡◌, ◌⊎◌, ◌↔◌, ℕ, ◌+◌, ◌/◌, ◌<◌, ◌≤◌, ◌<ℤ◌, List, [], length, get_or, set, Option, None, Some, slice_get, All, inl, inr, refl, sym, ap, ◌∙◌, arith, length-set, get_or-set_other}
 use Rattle.std.specs.Prelude.{unwrap_or, is_some, IsSome}
 use Rattle.std.specs.Int.{int_max}
 use Rattle.std.proofs.lemmas.Bool.{cases_eq}
 use Rattle.std.proofs.lemmas.Grind.{get_or-set_at}
 use Rattle.std.proofs.lemmas.Int.{ints, clamps}
 use Rattle.std.proofs.lemmas.Option.{same_Some, slice_get-get_or, slice_get_within}
+use Rattle.leg_lemmas.proofs.Places.{all_at}
 use Rattle.leg_geom.specs.Plane.{RectModel, IsCoordinate, ShareSquare}
 use Rattle.leg_lib_records.specs.Measure.{HasArea}
 use Rattle.leg_lib_records.specs.declared.records.Site.{Site}
@@ -25,7 +26,6 @@ use Rattle.leg_legal_sites.specs.Steps.FreeListSharing.{list_of_node, place_of_r
 use Rattle.leg_legal_sites.specs.Steps.Bounds.{AreWithinBounds, DoBoundAlike}
 use Rattle.leg_legal_sites.specs.Steps.FreeRows.{LosesMet, AreTakenBeneath}
 use Rattle.leg_legal_sites.specs.Steps.SharedLists.{own_list, AreShared, LosesShared, IsMetThroughout}
-use Rattle.leg_legal_sites.proofs.ListPlaces.{of_all}
 use Rattle.leg_legal_sites.proofs.RowBounds.{within_die}
 use Rattle.leg_legal_sites.proofs.RowTree.{leaf_alone, nodes_set, nodes_weaker}
 use Rattle.leg_legal_sites.proofs.RowsTaken.{same_row, inside_still, fit_still}
@@ -50,9 +50,6 @@ shared_along rect box other shared left right above below high = record {
     top = omega (arith, ints, clamps, below, high);
   };
 }
-
-pub lt_from_test : (a b : ℤ) → int_lt a b ≡ true → a <ℤ b
-lt_from_test a b test = grind (arith, ints, test)
 
 module _ (design : DesignModel) (rect : RectModel) (order : List RowKey) (old new : List (Option (List Stretch))) (node : ℕ) (some : 1 ≤ node)
     (others : (k : ℕ) → IsNotBeneath node k → get_or new k None ≡ get_or old k None) (is_order : IsRowOrder design.rows order) where
@@ -231,7 +228,7 @@ module _ (design : DesignModel) (rect : RectModel) (order : List RowKey) (old : 
               (λ k beneath list at_b other its is.
               let now = has_is k list beneath at_b in
               let same = like k other its beneath is in
-              let near = (of_all (IsRow design.library) design.rows k.row other proper is.there).at.y in
+              let near = (all_at (IsRow design.library) design.rows k.row other proper is.there).at.y in
               let far : IsCoordinate other.at.y = omega (arith, near) in
               rw (now, same.1) (fresh_fits k.row other same.0 far
               (λ n free. rw same.1 at (bounded k other its beneath is n ((loses n).0 free).0 (known_of k beneath)))))

@@ -1,29 +1,13 @@
 -- Stretches in lists that are joined end to end.
 use Rattle.std.proofs.Common.{◌≡◌, ◌⊎◌, ℕ, ◌+◌, ◌-◌, ◌<◌, ◌≤◌, Bool, true, false, List, [], ◌∷◌, ◌++◌, Some, slice_get, length, get_or, take, drop, All, AllPairs, Contains, if◌then◌else◌, inl, inr, refl, sym, ap, ◌∙◌, arith}
 use Rattle.std.specs.Prelude.{nat_lt}
-use Rattle.std.proofs.lemmas.Bool.{cases_lt, ltb-true, lt-ltb}
-use Rattle.std.proofs.lemmas.List.{length-append, length-take, length-drop, get_or-take, get_or-drop, get_or_append_left, get_or-append_right}
+use Rattle.std.proofs.lemmas.Bool.{ltb-true, lt-ltb}
+use Rattle.std.proofs.lemmas.List.{length-take, length-drop, get_or-take, get_or-drop}
 use Rattle.std.proofs.lemmas.List.Elements.{Contains-append_left, Contains-append_right, Contains-append_cases}
 use Rattle.std.proofs.lemmas.Option.{slice_get-get_or, slice_get_within, get_or_from_slice_get}
 use Rattle.leg_legal_sites.specs.declared.stretch.Stretch.{Stretch}
 use Rattle.leg_legal_sites.specs.Steps.Stretches.{IsFreeSite}
 use Rattle.leg_legal_sites.specs.Steps.TakeSites.{if_any}
-
--- what holds of each pair of two lists, and of one from each, holds of those of both joined
-pub pairs_append : {X : Type 0} (R : X → X → Type 0) (xs ys : List X) → AllPairs R xs → AllPairs R ys → All (λ x. All (R x) ys) xs → AllPairs R (xs ++ ys)
-pairs_append R xs ys in_xs in_ys across i j d order within =
-    let long = length-append xs ys in
-    elim (cases_lt j (length xs)) [
-      | inl left ↦
-          rw (get_or_append_left xs ys d i (omega arith), get_or_append_left xs ys d j left) (in_xs i j d order left)
-      | inr right ↦
-          let at_j = get_or-append_right xs ys (length xs) j d refl right in
-          elim (cases_lt i (length xs)) [
-            | inl apart ↦ rw (get_or_append_left xs ys d i apart, at_j) (across i d apart (j - length xs) d (omega arith))
-            | inr both ↦
-                rw (get_or-append_right xs ys (length xs) i d refl both, at_j) (in_ys (i - length xs) (j - length xs) d (omega arith) (omega arith))
-          ]
-    ]
 
 -- a site lies in a stretch of the list
 pub record FreeIn (free : List Stretch) (k : ℕ) : Type 0 where

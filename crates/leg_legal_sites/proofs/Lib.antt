@@ -30,7 +30,7 @@ mod SiteSquares
 -- What the proofs of other crates cite: which sites are met, free sites and clear boxes, the best position, mirroring
 pub mod BestSoFar
 pub mod MetSites
-pub mod KnownSites
+pub mod FreeLists
 mod RowsTaken
 mod OnlyRow
 mod RowsInside

@@ -1,5 +1,5 @@
 -- Elements of a list by their numbers, in a list in which one is another, and in one that has grown at its end.
-use Rattle.std.proofs.Common.{◌≡◌, ◌≢◌, ◌⊎◌, ℕ, zero, suc, ◌+◌, ◌-◌, ◌<◌, List, [], ◌∷◌, ◌++◌, Some, All, slice_get, length, get_or, set, refl, sym, ap, ◌∙◌, inl, inr, arith, length-set, get_or-set_other, length-append}
+use Rattle.std.proofs.Common.{◌≡◌, ◌≢◌, ◌⊎◌, ℕ, ◌+◌, ◌-◌, ◌<◌, List, [], ◌∷◌, ◌++◌, Some, slice_get, length, get_or, set, refl, sym, ap, ◌∙◌, inl, inr, arith, length-set, get_or-set_other, length-append}
 use Rattle.std.proofs.lemmas.Bool.{cases_lt}
 use Rattle.std.proofs.lemmas.Grind.{get_or-set_at}
 use Rattle.std.proofs.lemmas.List.{get_or_append_left, get_or-append_right}
@@ -19,17 +19,6 @@ module _ {X : Type 0} where
       let below : j < length (set xs i y) = slice_get_within (set xs i y) j b at in
       let within : j < length xs = omega (arith, below, all) in
       slice_get-get_or xs j b within ∙ ap Some (sym (get_or-set_other xs i j y b differ) ∙ get_or_from_slice_get (set xs i y) j b b at)
-
-  pub of_all : (P : X → Type 0) (xs : List X) (i : ℕ) (x : X) → All P xs → slice_get xs i ≡ Some x → P x
-  of_all P xs i x each at = let is : get_or xs i x ≡ x = get_or_from_slice_get xs i x x at in rw is at (each i x (slice_get_within xs i x at))
-
-  -- every element but one stays
-  pub set_kept : (xs : List X) (i j : ℕ) (y : X) → j ≢ i → slice_get (set xs i y) j ≡ slice_get xs j
-  set_kept [] i j y apart = refl
-  set_kept (z ∷ zs) zero zero y apart = absurd (apart refl)
-  set_kept (z ∷ zs) zero (suc j) y apart = refl
-  set_kept (z ∷ zs) (suc i) zero y apart = refl
-  set_kept (z ∷ zs) (suc i) (suc j) y apart = set_kept zs i j y (λ same. apart (ap suc same))
 
   -- the last of a longer list, or one of the others
   pub in_longer : (xs : List X) (x : X) (i : ℕ) (y : X) → slice_get (xs ++ x ∷ []) i ≡ Some y → (slice_get xs i ≡ Some y) ⊎ ((i ≡ length xs) × (y ≡ x))

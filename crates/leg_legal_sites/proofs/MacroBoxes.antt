@@ -1,7 +1,8 @@
 -- A macro that is as high as a row's sites and as wide as some of them, with its lower left corner at that of a site.
-use Rattle.std.proofs.Common.{◌≡◌, ℕ, ◌+◌, add-mul, ℤ, pos, ◌+ℤ◌, ◌-ℤ◌, ◌*ℤ◌, ◌<ℤ◌, ◌≤ℤ◌, Bool, true, false, IsTrue, int_lt, inl, inr, refl, sym, ap, ◌∙◌, arith, unsigned_abs}
+use Rattle.std.proofs.Common.{◌≡◌, ℕ, ◌+◌, add-mul, ℤ, pos, ◌+ℤ◌, ◌-ℤ◌, ◌*ℤ◌, ◌<ℤ◌, ◌≤ℤ◌, Bool, IsTrue, inl, inr, refl, sym, ap, ◌∙◌, arith, unsigned_abs}
 use Rattle.std.proofs.lemmas.Bool.{false≢true}
 use Rattle.std.proofs.lemmas.Int.{ints}
+use Rattle.leg_lemmas.proofs.Integers.{lt_test, not_lt_test}
 use Rattle.leg_geom.specs.Plane.{PointModel, RectModel}
 use Rattle.leg_geom.specs.Line.{between, Interval}
 use Rattle.leg_geom.specs.declared.orient.Orient.{Orient}
@@ -17,18 +18,12 @@ use Rattle.leg_legal_sites.specs.Steps.ClearSites.{sites_box}
 use Rattle.leg_legal_sites.proofs.SiteEdges.{edge_is}
 use Rattle.leg_legal_sites.proofs.SiteSquares.{on_sites}
 
-less_is : (a b : ℤ) → a <ℤ b → int_lt a b ≡ true
-less_is a b below = grind (arith, ints)
-
-not_less : (a b : ℤ) → a <ℤ b → int_lt b a ≡ false
-not_less a b below = grind (arith, ints)
-
 -- the interval of two numbers, the lower one first or last
 between_rising : (a b : ℤ) → a <ℤ b → between a b ≡ record { low = a; high = b }
-between_rising a b below = rw (less_is a b below) refl
+between_rising a b below = rw (lt_test a b below) refl
 
 between_falling : (a b : ℤ) → a <ℤ b → between b a ≡ record { low = a; high = b }
-between_falling a b below = rw (not_less a b below) refl
+between_falling a b below = rw (not_lt_test a b below) refl
 
 -- the rectangle of two intervals
 abbrev sides_of : Interval → Interval → RectModel

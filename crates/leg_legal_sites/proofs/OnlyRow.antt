@@ -4,6 +4,7 @@ use Rattle.std.specs.List.Sorted.{IsPartitionedBy, IsPartitionPoint}
 use Rattle.std.proofs.lemmas.Bool.{cases_eq, cases_lt}
 use Rattle.std.proofs.lemmas.Int.{ints}
 use Rattle.std.proofs.lemmas.Option.{same_Some, slice_get_within, slice_get-get_or, get_or_from_slice_get}
+use Rattle.leg_lemmas.proofs.Integers.{le_test, le_from_test}
 use Rattle.leg_geom.specs.Plane.{RectModel, IsCoordinate}
 use Rattle.leg_lib_records.specs.declared.records.Site.{Site}
 use Rattle.leg_design_records.specs.Records.{DesignModel}
@@ -86,12 +87,6 @@ module _ (order : List RowKey) (rising : AllPairs IsBefore order) (first last : 
         let as_first : other.site ≡ row.site = one ∙ of.site ∙ ap (λ (r : Row). r.site) is_row in
         ap (λ (s : Site). s.size.height) (same_Some its site (sym there.sited ∙ ap (slice_get design.library.sites) as_first ∙ at.sited));
   }
-
-le_from_test : (a b : ℤ) → int_le a b ≡ true → a ≤ℤ b
-le_from_test a b test = grind (arith, ints)
-
-le_test : (a b : ℤ) → a ≤ℤ b → int_le a b ≡ true
-le_test a b upto = grind (arith, ints)
 
 -- the rows up to a y stand first
 pub upto_partitioned : (order : List RowKey) (y : ℤ) → DoRise order → IsPartitionedBy (λ key. int_le key.y y) order

@@ -5,13 +5,14 @@ use Rattle.std.proofs.lemmas.List.{get_or_append_left}
 use Rattle.std.proofs.lemmas.Bool.{cases_lt, cases_eq, cases_order}
 use Rattle.std.proofs.lemmas.List.Elements.{Contains-append_left, Contains-append_right, Contains-append_cases}
 use Rattle.std.proofs.lemmas.Option.{same_Some, none-some, slice_get_within, slice_get-get_or, get_or_from_slice_get, slice_get_read}
+use Rattle.leg_lemmas.proofs.Places.{set_elsewhere}
 use Rattle.leg_legal_sites.specs.declared.stretch.Stretch.{Stretch}
 use Rattle.leg_legal_sites.specs.Steps.Stretches.{IsWithout, IsFreeSite, AreFreeSites, AreFreeStretches}
 use Rattle.leg_legal_sites.specs.Steps.Parts.{all_of, AreInRow, AreNoMoreThan, AreMeasured, IsPartSpan, HasSpan, LosesSites, AreFewer, AreLostUpTo, AreAllFewer, AreJoinedEnds, IsFreeBefore, HasSpanUpTo, NoneFitsBefore, NoneFitsFrom}
 use Rattle.leg_legal_sites.specs.declared.ends.Ends.{Ends}
 use Rattle.leg_legal_sites.specs.Steps.Nearest.{FitsFrom, FitsUpTo, IsFirstFit, IsLast}
 use Rattle.leg_legal_sites.proofs.OneStretch.{apart_at, long_at, one_stretch}
-use Rattle.leg_legal_sites.proofs.ListPlaces.{slice_get-set_same, slice_get-set_other, set_kept, set_there}
+use Rattle.leg_legal_sites.proofs.ListPlaces.{slice_get-set_same, slice_get-set_other, set_there}
 
 -- a stretch of the list has the site
 pub site_of : (free : List Stretch) (s : Stretch) (k : ℕ) → Contains free s → s.from ≤ k → k < s.end → IsFreeSite free k
@@ -297,7 +298,7 @@ pub lost_more : (from end i : ℕ) (old mid : List (List Stretch)) (p q : List S
     → AreLostUpTo from end i old mid → AreLostUpTo from end (i + 1) old (set mid i q)
 lost_more from end i old mid p q at loses lost = record {
   count = length-set mid i q ∙ lost.count;
-  same = λ n upto. set_kept mid i n q (λ same. omega (arith, upto, same)) ∙ lost.same n (omega (arith, upto));
+  same = λ n upto. set_elsewhere mid i n q (λ same. omega (arith, upto, same)) ∙ lost.same n (omega (arith, upto));
   each = λ n r before was. elim (cases_eq n i) [
     | inl same ↦
         let here : slice_get mid n ≡ Some p = ap (slice_get mid) same ∙ at in
@@ -305,7 +306,7 @@ lost_more from end i old mid p q at loses lost = record {
         (q, set_there mid i n p q same here, rw one loses)
     | inr differ ↦
         let each = lost.each n r (omega (arith, before, differ)) was in
-        (each.0, set_kept mid i n q differ ∙ each.1, each.2)
+        (each.0, set_elsewhere mid i n q (λ same. differ (sym same)) ∙ each.1, each.2)
   ];
 }
 

@@ -4,8 +4,9 @@ use Rattle.std.specs.Int.{saturate_signed}
 use Rattle.std.proofs.Math.IntN.{pos-*ℤ-pos}
 use Rattle.std.proofs.Math.Nat.{mul-le-mul_right}
 use Rattle.std.proofs.lemmas.Bool.{cases_eq}
-use Rattle.std.proofs.lemmas.Int.{ints, to_z-of_z, fits_signed_from_abs}
+use Rattle.std.proofs.lemmas.Int.{ints, to_z-of_z}
 use Rattle.leg_geom.specs.Plane.{RectModel, IsCoordinate, ShareSquare}
+use Rattle.leg_geom.proofs.Coordinates.{sum_fits}
 use Rattle.leg_lib_records.specs.Measure.{ExtentModel, HasArea}
 use Rattle.leg_design_records.specs.WellFormedParts.{IsArea}
 use Rattle.leg_design_records.specs.declared.records.Row.{Row}
@@ -165,10 +166,6 @@ module _ (number : ℕ) (row : Row) (size : ExtentModel) where
         let bounds = bounds_from_all_squares die (site_box row size k) (site_proper row size area k) (inside k site) in
         omega (arith, ints, on, bounds.left, bounds.right, rect.x1, rect.x2);
   }
-
--- the sum of two numbers within the limit is passed as it is
-pub sum_fits : (a b : ℤ) → IsCoordinate a → IsCoordinate b → FitsSigned w64 (a +ℤ b)
-sum_fits a b first second = fits_signed_from_abs w64 (a +ℤ b) (omega (arith, ints, first, second))
 
 pub sum_passed : (a b : ℤ) → IsCoordinate a → IsCoordinate b → to_z w64 (of_z w64 (a +ℤ b)) ≡ a +ℤ b
 sum_passed a b first second = to_z-of_z w64 (a +ℤ b) (sum_fits a b first second)

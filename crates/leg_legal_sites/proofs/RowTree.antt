@@ -2,12 +2,13 @@
 use Rattle.std.proofs.Common.{◌≡◌, ◌⊎◌, ℕ, zero, suc, ◌+◌, ◌*◌, ◌<◌, ◌≤◌, List, [], ◌∷◌, ◌++◌, length, get_or, set, Some, slice_get, inl, inr, refl, sym, ap, ◌∙◌, arith, length-set, length-append}
 use Rattle.std.proofs.lemmas.Bool.{cases_eq}
 use Rattle.std.proofs.lemmas.Option.{same_Some, slice_get-get_or, slice_get_within}
+use Rattle.leg_lemmas.proofs.Places.{set_elsewhere}
 use Rattle.leg_legal_sites.specs.declared.bounds.Bounds.{Bounds}
 use Rattle.leg_legal_sites.specs.declared.row_keys.RowKey.{RowKey}
 use Rattle.leg_legal_sites.specs.Steps.Bounds.{DoCover}
 use Rattle.leg_legal_sites.specs.Steps.TreeOfRows.{IsLevelsBeneath, IsLeafBeneath, AreNodes}
 use Rattle.leg_legal_sites.specs.Steps.RowTree.{AreLeavesUpTo, AreJoinedFrom}
-use Rattle.leg_legal_sites.proofs.ListPlaces.{slice_get-set_same, slice_get-set_other, set_kept, in_longer}
+use Rattle.leg_legal_sites.proofs.ListPlaces.{slice_get-set_same, slice_get-set_other, in_longer}
 
 -- a node beneath another has no lower number
 pub not_before : (levels node other : ℕ) → IsLevelsBeneath levels node other → node ≤ other
@@ -201,7 +202,7 @@ module _ (leaves node : ℕ) (old mid : List Bounds) (outer left right : Bounds)
       → DoCover outer left → DoCover outer right → AreJoinedFrom leaves (node + 1) old mid → AreJoinedFrom leaves node old (set mid node outer)
   joined_more before some within at_left at_right over_left over_right so_far = record {
     count = length-set mid node outer ∙ so_far.count;
-    kept = λ k from. set_kept mid node k outer (λ same. omega (arith, from, before, same)) ∙ so_far.kept k from;
+    kept = λ k from. set_elsewhere mid node k outer (λ same. omega (arith, from, before, same)) ∙ so_far.kept k from;
     cover = λ k a b from below there at. elim (cases_eq k node) [
       | inl same ↦
           let is : a ≡ outer = slice_get-set_same mid node k outer a same there in

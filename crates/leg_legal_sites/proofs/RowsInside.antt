@@ -11,7 +11,7 @@ use Rattle.leg_legal_sites.specs.Steps.RowSites.{AreSitesInside}
 use Rattle.leg_legal_sites.specs.Steps.ClearSites.{IsFreeList, NoneTaken}
 use Rattle.leg_legal_sites.specs.Steps.FreeLists.{IsRowAt, AreAllInDie}
 use Rattle.leg_legal_sites.specs.Steps.FreeRows.{AreInside}
-use Rattle.leg_legal_sites.proofs.KnownSites.{known_at_first, known_same}
+use Rattle.leg_legal_sites.proofs.FreeLists.{free_at_first, free_same}
 use Rattle.leg_legal_sites.proofs.RowsTaken.{same_row}
 
 no_box : (box : RectModel) → ¬ Contains [] box
@@ -21,8 +21,8 @@ no_box box (place, below, is) = absurd (omega (arith, below))
 pub known_of_none : (row : Row) (size : ExtentModel) (die : RectModel) (sites : Stretch) (free : List Stretch) → AreSitesInside row size die sites
     → ((k : ℕ) → IsFreeSite free k ↔ ((sites.from ≤ k) × (k < sites.end))) → IsFreeList row size die (Contains []) free
 known_of_none row size die sites free inside between =
-    known_same row size die NoneTaken (Contains []) free (λ box. (λ never. absurd never, λ has. no_box box has))
-    (known_at_first row size die sites free inside between)
+    free_same row size die NoneTaken (Contains []) free (λ box. (λ never. absurd never, λ has. no_box box has))
+    (free_at_first row size die sites free inside between)
 
 -- what a list is made of, for the row of this number
 pub known_of_row : {E : Type 0} (r : Result (List Stretch) E) (design : DesignModel) (number : ℕ) (row : Row) (site : Site) (sites : Stretch)

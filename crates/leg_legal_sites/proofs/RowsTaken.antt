@@ -20,7 +20,7 @@ use Rattle.leg_legal_sites.specs.Steps.Parts.{LosesSites}
 use Rattle.leg_legal_sites.specs.Steps.Bounds.{DoCover, IsBeside}
 use Rattle.leg_legal_sites.specs.Steps.FreeRows.{LosesMet, AreTakenBeneath, AreTaken}
 use Rattle.leg_legal_sites.specs.Steps.SharedLists.{LosesShared}
-use Rattle.leg_legal_sites.proofs.KnownSites.{outside, beside}
+use Rattle.leg_legal_sites.proofs.FreeLists.{outside, beside}
 use Rattle.leg_legal_sites.proofs.RowBounds.{bound_fewer, bound_more, unmet_beside}
 use Rattle.leg_legal_sites.proofs.RowTree.{leaf_beneath_first, beneath_either, nodes_set, fits_joined}
 

@@ -4,17 +4,10 @@ use Rattle.std.specs.Int.{div_ceil}
 use Rattle.std.proofs.Math.IntN.{pos-*ℤ-pos}
 use Rattle.std.proofs.Math.Nat.{le-div_iff_mul-le, mul-le-mul_right}
 use Rattle.std.proofs.lemmas.Bool.{cases_lt}
-use Rattle.std.proofs.lemmas.Grind.{common_steps, div_ceil_times}
+use Rattle.std.proofs.lemmas.Grind.{div_ceil_times}
 use Rattle.std.proofs.lemmas.Int.{ints, by_lt_z}
+use Rattle.leg_lemmas.proofs.Naturals.{product_more}
 use Rattle.leg_legal_sites.specs.Steps.SiteEdges.{IsBeyond}
-
--- so many sites on, one more site ends
-pub product_more : (k n : ℕ) → (k + 1) * n ≡ k * n + n
-product_more k n = grind (arith, common_steps)
-
--- more sites reach no less far
-pub product_up : (j k n : ℕ) → j ≤ k → j * n ≤ k * n
-product_up j k n order = mul-le-mul_right n order
 
 -- where the left edge of a site lies, from that of the first one
 pub edge_is : (width : ℤ) (n : ℕ) → width ≡ pos n → (k : ℕ) → pos k *ℤ width ≡ pos (k * n)
@@ -23,13 +16,13 @@ edge_is width n is k = rw is (pos-*ℤ-pos k n)
 -- of sites of width n, those that begin before d
 module _ (d n : ℕ) (some : 0 < n) where
   begun_before : (k : ℕ) → k < div_ceil d n → k * n < d
-  begun_before k below = omega (arith, product_up (k + 1) (div_ceil d n) n (omega (arith, below)), product_more k n, (div_ceil_times d n some).1)
+  begun_before k below = omega (arith, mul-le-mul_right {m = k + 1} {n = div_ceil d n} n (omega (arith, below)), product_more k n, (div_ceil_times d n some).1)
 
   before_begun : (k : ℕ) → k * n < d → k < div_ceil d n
   before_begun k left =
       elim (cases_lt k (div_ceil d n)) [
         | inl low ↦ low
-        | inr high ↦ absurd (omega (arith, left, product_up (div_ceil d n) k n high, (div_ceil_times d n some).0))
+        | inr high ↦ absurd (omega (arith, left, mul-le-mul_right n high, (div_ceil_times d n some).0))
       ]
 
 module _ (left x width : ℤ) (d n : ℕ) (is : width ≡ pos n) (some : 0 < n) where

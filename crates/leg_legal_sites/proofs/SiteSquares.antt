@@ -1,13 +1,14 @@
 -- The unit squares of consecutive sites of a row are those of one box.
 use Rattle.std.proofs.Common.{◌≡◌, ℕ, ◌+◌, ◌*◌, ◌/◌, ◌<◌, ◌≤◌, pos, ◌+ℤ◌, ◌-ℤ◌, ◌*ℤ◌, ◌≤ℤ◌, unsigned_abs, arith}
-use Rattle.std.proofs.Math.Nat.{div-mul-le_self, lt-div-mul-add, le-div_iff_mul-le, div-lt_iff_lt-mul}
+use Rattle.std.proofs.Math.Nat.{div-mul-le_self, lt-div-mul-add, le-div_iff_mul-le, div-lt_iff_lt-mul, mul-le-mul_right}
 use Rattle.std.proofs.lemmas.Int.{ints}
+use Rattle.leg_lemmas.proofs.Naturals.{product_more}
 use Rattle.leg_geom.specs.Plane.{PointModel, HasSquare}
 use Rattle.leg_lib_records.specs.Measure.{ExtentModel, HasArea, IsProper}
 use Rattle.leg_design_records.specs.declared.records.Row.{Row}
 use Rattle.leg_rules.specs.Placement.Sites.{site_box, SitesHave, IsOnSites}
 use Rattle.leg_legal_sites.specs.Steps.ClearSites.{sites_box}
-use Rattle.leg_legal_sites.proofs.SiteEdges.{product_more, product_up, edge_is}
+use Rattle.leg_legal_sites.proofs.SiteEdges.{edge_is}
 
 module _ (row : Row) (size : ExtentModel) (area : HasArea size) where
   abbrev n : ℕ
@@ -59,8 +60,8 @@ module _ (row : Row) (size : ExtentModel) (area : HasArea size) where
         let right = rw (edge (s.k + 1)) at s.inside.right in
         let last : s.k + 1 ≤ first + many = omega (arith, s.below) in
         record {
-          left = rw (edge first) (omega (arith, ints, left, product_up first s.k n s.from));
-          right = rw (edge (first + many)) (omega (arith, ints, right, product_up (s.k + 1) (first + many) n last));
+          left = rw (edge first) (omega (arith, ints, left, mul-le-mul_right n s.from));
+          right = rw (edge (first + many)) (omega (arith, ints, right, mul-le-mul_right n last));
           bottom = s.inside.bottom;
           top = s.inside.top;
         }

@@ -4,11 +4,12 @@ use Rattle.std.specs.Prelude.{nat_lt}
 use Rattle.std.proofs.lemmas.Bool.{cases_lt, cases_order}
 use Rattle.std.proofs.lemmas.List.Elements.{All-append, All-take, All-drop}
 use Rattle.std.proofs.lemmas.Option.{same_Some}
+use Rattle.leg_lemmas.proofs.Rising.{AllPairs-append}
 use Rattle.leg_legal_sites.specs.declared.stretch.Stretch.{Stretch}
 use Rattle.leg_legal_sites.specs.Steps.Stretches.{IsFreeSite, AreFreeStretches, IsWithout}
 use Rattle.leg_legal_sites.specs.Steps.TakeSites.{IsCutAt, if_any, with_rests}
 use Rattle.leg_legal_sites.proofs.OneStretch.{apart_at}
-use Rattle.leg_legal_sites.proofs.JoinedStretches.{pairs_append, FreeIn, from_free_in, to_free_in, free_append_cases, free_append_left, free_append_right, at_from_take, take_has, at_from_drop, drop_has, all_take, all_drop, pairs_take, pairs_drop, all_if_any, pairs_if_any, free_in_any, any_has}
+use Rattle.leg_legal_sites.proofs.JoinedStretches.{FreeIn, from_free_in, to_free_in, free_append_cases, free_append_left, free_append_right, at_from_take, take_has, at_from_drop, drop_has, all_take, all_drop, pairs_take, pairs_drop, all_if_any, pairs_if_any, free_in_any, any_has}
 
 pub without_unmet : (free : List Stretch) (from end first last : ℕ) → AreFreeStretches free → IsCutAt free from end first last → last ≤ first
     → IsWithout free from end free
@@ -69,19 +70,19 @@ module _ (free : List Stretch) (from end first last : ℕ) (are : AreFreeStretch
 
   middle_apart : AllPairs Apart middle
   middle_apart =
-      pairs_append Apart (if_any left) (if_any right) (pairs_if_any Apart left) (pairs_if_any Apart right)
+      AllPairs-append Apart (if_any left) (if_any right) (pairs_if_any Apart left) (pairs_if_any Apart right)
       (all_if_any (λ s. All (Apart s) (if_any right)) left (λ some. all_if_any (Apart left) right (λ other. order)))
 
   front_apart : AllPairs Apart (take first free ++ middle)
   front_apart =
-      pairs_append Apart (take first free) middle (pairs_take Apart first free are.apart) middle_apart
+      AllPairs-append Apart (take first free) middle (pairs_take Apart first free are.apart) middle_apart
       (all_take (λ s. All (Apart s) middle) first free (λ i s before there.
       let upto = cut.before i s before there in
       middle_all (Apart s) (apart_at free are i first s a there at_a before) (omega arith)))
 
   rest_apart : AllPairs Apart rest
   rest_apart =
-      pairs_append Apart (take first free ++ middle) (drop last free) front_apart (pairs_drop Apart last free are.apart)
+      AllPairs-append Apart (take first free ++ middle) (drop last free) front_apart (pairs_drop Apart last free are.apart)
       (All-append (λ s. All (Apart s) (drop last free)) (take first free) middle
       (all_take (λ s. All (Apart s) (drop last free)) first free (λ i s before there.
       all_drop (Apart s) last free (λ j t after at. apart_at free are i j s t there at (omega arith))))

@@ -57,7 +57,8 @@ cut_rest text rest (x ∷ p) (y ∷ q) (a, here, one, cut) (b, there, other, aga
     let f : b ≡ a = sym (rest_same x y a b e (sym here ∙ there)) in
     cut_rest a rest p q cut (subst (Cut q) f again)
 
-cut_push : (text rest piece after : List ℕ) (pieces : List (List ℕ)) → CutTo rest pieces text → rest ≡ piece ++ after → IsPiece piece after → CutTo after (pieces ++ piece ∷ []) text
+cut_push : (text rest piece after : List ℕ) (pieces : List (List ℕ)) → CutTo rest pieces text → rest ≡ piece ++ after → IsPiece piece after
+    → CutTo after (pieces ++ piece ∷ []) text
 cut_push text rest piece after [] here whole is_piece = (after, here ∙ whole, is_piece, refl)
 cut_push text rest piece after (x ∷ pieces) (a, here, one, cut) whole is_piece =
     (a, here, one, cut_push a rest piece after pieces cut whole is_piece)
@@ -65,12 +66,14 @@ cut_push text rest piece after (x ∷ pieces) (a, here, one, cut) whole is_piece
 feeds_append : (xs ys : List ℕ) → count_by is_line_feed (xs ++ ys) ≡ count_by is_line_feed xs + count_by is_line_feed ys
 feeds_append xs ys = sum_by-append (λ x. cond (is_line_feed x) 1 0) xs ys
 
-feeds_push : (pieces : List (List ℕ)) (piece : List ℕ) → count_by is_line_feed (concat (pieces ++ piece ∷ [])) ≡ count_by is_line_feed (concat pieces) + count_by is_line_feed piece
+feeds_push : (pieces : List (List ℕ)) (piece : List ℕ)
+    → count_by is_line_feed (concat (pieces ++ piece ∷ [])) ≡ count_by is_line_feed (concat pieces) + count_by is_line_feed piece
 feeds_push [] piece = omega (arith, feeds_append piece [])
 feeds_push (x ∷ pieces) piece =
     omega (arith, feeds_append x (concat (pieces ++ piece ∷ [])), feeds_append x (concat pieces), feeds_push pieces piece)
 
-words_push : (line : ℕ) (pieces : List (List ℕ)) (piece : List ℕ) → words_from line (pieces ++ piece ∷ []) ≡ words_from line pieces ++ words_in (line + count_by is_line_feed (concat pieces)) piece
+words_push : (line : ℕ) (pieces : List (List ℕ)) (piece : List ℕ)
+    → words_from line (pieces ++ piece ∷ []) ≡ words_from line pieces ++ words_in (line + count_by is_line_feed (concat pieces)) piece
 words_push line [] piece = append-nil _ ∙ ap (λ n. words_in n piece) (sym (add-zero line))
 words_push line (x ∷ pieces) piece =
     let n = line + count_by is_line_feed x in
@@ -85,7 +88,8 @@ pub record HasRead (text rest : List ℕ) (line : ℕ) (words : List Word) : Typ
   pub said : words ≡ words_from 1 pieces
   pub counted : line ≡ 1 + count_by is_line_feed (concat pieces)
 
-pub read_more : (text rest : List ℕ) (line : ℕ) (words : List Word) (n : ℕ) → HasRead text rest line words → IsPiece (take n rest) (drop n rest) → HasRead text (drop n rest) (line + count_by is_line_feed (take n rest)) (words ++ words_in line (take n rest))
+pub read_more : (text rest : List ℕ) (line : ℕ) (words : List Word) (n : ℕ) → HasRead text rest line words → IsPiece (take n rest) (drop n rest)
+    → HasRead text (drop n rest) (line + count_by is_line_feed (take n rest)) (words ++ words_in line (take n rest))
 read_more text rest line words n read is_piece =
     let piece = take n rest in record {
       pieces = read.pieces ++ piece ∷ [];
@@ -98,11 +102,13 @@ read_more text rest line words n read is_piece =
 pub read_all : (text rest : List ℕ) (line : ℕ) (words : List Word) → HasRead text rest line words → length rest ≡ 0 → AreTokens text words
 read_all text rest line words read over = (read.pieces, subst (λ r. CutTo r read.pieces text) (nil_from_length rest over) read.cut, read.said)
 
-pub read_only : (text rest : List ℕ) (line : ℕ) (words : List Word) → HasRead text rest line words → length rest ≡ 0 → (others : List Word) → AreTokens text others → others ≡ words
+pub read_only : (text rest : List ℕ) (line : ℕ) (words : List Word) → HasRead text rest line words → length rest ≡ 0 → (others : List Word)
+    → AreTokens text others → others ≡ words
 read_only text rest line words read over others = tokens_same text words others (read_all text rest line words read over)
 
 -- at a quote that begins no piece
-pub read_stuck : (text rest : List ℕ) (line : ℕ) (words : List Word) → HasRead text rest line words → slice_index rest 0 ≡ 34 → ((n : ℕ) → ¬ IsPiece (take n rest) (drop n rest)) → IsUnclosed text line
+pub read_stuck : (text rest : List ℕ) (line : ℕ) (words : List Word) → HasRead text rest line words → slice_index rest 0 ≡ 34
+    → ((n : ℕ) → ¬ IsPiece (take n rest) (drop n rest)) → IsUnclosed text line
 read_stuck text rest line words read quote endless = record {
   pieces = read.pieces;
   rest = rest;

@@ -28,11 +28,13 @@ module _ {Said : Type 0} (reading : Words → Option Said) (text : List ℕ) whe
   says_none words has is said says = let e = says_what_is_read words has said says in cc
 
   -- what a reader of the words answers, said of the text
-  pub means_only : (words : List Word) (r : Result (Unit {0}) ReadFault) (made : Said) → HasWords text words → Means (λ _. made) r (reading (texts words)) → OnOk r ((said : Said) → Denotes reading text said → said ≡ made)
+  pub means_only : (words : List Word) (r : Result (Unit {0}) ReadFault) (made : Said) → HasWords text words → Means (λ _. made) r (reading (texts words))
+      → OnOk r ((said : Said) → Denotes reading text said → said ≡ made)
   means_only words (Ok x) made has means = λ said says. says_only words made said has means says
   means_only words (Err fault) made has means = tt
 
-  pub means_none : (words : List Word) (r : Result (Unit {0}) ReadFault) (made : Said) → HasWords text words → Means (λ _. made) r (reading (texts words)) → IfErr r (λ fault. (fault.kind ≡ Memory → ⊥) → (said : Said) → Denotes reading text said → ⊥)
+  pub means_none : (words : List Word) (r : Result (Unit {0}) ReadFault) (made : Said) → HasWords text words → Means (λ _. made) r (reading (texts words))
+      → IfErr r (λ fault. (fault.kind ≡ Memory → ⊥) → (said : Said) → Denotes reading text said → ⊥)
   means_none words (Ok x) made has means = tt
   means_none words (Err fault) made has means = λ not_memory. says_none words has (means not_memory)
 

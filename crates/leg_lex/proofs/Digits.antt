@@ -1,10 +1,10 @@
 -- Digits and the numbers that they write, up to a limit.
-use Rattle.std.proofs.Common.{◌≡◌, ℕ, ◌+◌, ◌-◌, ◌*◌, ◌≤◌, ◌<◌, min, Bool, true, false, ◌&&◌, List, [], ◌∷◌, length, drop, get_or, refl, ap, ◌∙◌, ⊎_elim, arith}
+use Rattle.std.proofs.Common.{◌≡◌, ℕ, ◌+◌, ◌-◌, ◌*◌, ◌≤◌, ◌<◌, min, true, false, ◌&&◌, List, [], ◌∷◌, length, drop, get_or, refl, ap, ◌∙◌, ⊎_elim, arith}
 use Rattle.std.specs.Char.{is_ascii_digit, digit_value}
 use Rattle.std.specs.List.{list_all}
 use Rattle.std.specs.Str.{all_ascii_digits}
 use Rattle.std.specs.Str.Parse.{digits_value_after}
-use Rattle.std.proofs.lemmas.Bool.{cases_lt, false≢true}
+use Rattle.std.proofs.lemmas.Bool.{cases_lt}
 use Rattle.std.proofs.lemmas.Bool.Decides.{nat_tests}
 use Rattle.std.proofs.lemmas.List.Recursion.{same_from_clauses}
 use Rattle.std.proofs.lemmas.List.{drop_more, drop_all}
@@ -23,14 +23,6 @@ number_after-capped limit n digits = ⊎_elim
     (λ below. let e : min n limit ≡ n = omega arith in ap (λ k. min (digits_value_after 10 k digits) limit) e)
     (λ above. omega (arith, number_after-ge (min n limit) digits, number_after-ge n digits))
     (cases_lt n limit)
-
-pub front_true : (a b : Bool) → (a && b) ≡ true → a ≡ true
-front_true true b h = refl
-front_true false b h = h
-
-pub rest_true : (a b : Bool) → (a && b) ≡ true → b ≡ true
-rest_true true b h = h
-rest_true false b h = absurd (false≢true h)
 
 is_digit_value : (c : ℕ) → is_ascii_digit c ≡ true → (48 ≤ c) × (digit_value c ≡ c - 48)
 is_digit_value c is = grind (arith, nat_tests)

@@ -15,7 +15,8 @@ module _ {S X : Type 0} (step : S → X → Option S) where
   over_ends made xs i past = rw (drop_all i xs past) refl
 
   -- One more element is taken.
-  pub over_goes_on : (made next : S) (xs : List X) (i : ℕ) (x : X) → i < length xs → x ≡ get_or xs i x → step made x ≡ Some next → over step made (drop i xs) ≡ over step next (drop (i + 1) xs)
+  pub over_goes_on : (made next : S) (xs : List X) (i : ℕ) (x : X) → i < length xs → x ≡ get_or xs i x → step made x ≡ Some next
+      → over step made (drop i xs) ≡ over step next (drop (i + 1) xs)
   unfolding over
   over_goes_on made next xs i x less is said = rw (at_front xs i x less is, said) refl
 
@@ -25,7 +26,8 @@ module _ {S X : Type 0} (step : S → X → Option S) where
   over_fails made xs i x less is said = rw (at_front xs i x less is, said) refl
 
   -- What each element keeps, all of them keep.
-  pub over_keeps : (P : S → Type 0) → ((made : S) (x : X) (next : S) → P made → step made x ≡ Some next → P next) → (made : S) (xs : List X) (last : S) → P made → over step made xs ≡ Some last → P last
+  pub over_keeps : (P : S → Type 0) → ((made : S) (x : X) (next : S) → P made → step made x ≡ Some next → P next) → (made : S) (xs : List X) (last : S) → P made
+      → over step made xs ≡ Some last → P last
   unfolding over
   over_keeps P keeps made [] last holds all =
       let same : made ≡ last = cc in

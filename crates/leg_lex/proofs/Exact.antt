@@ -4,11 +4,11 @@ use Rattle.std.proofs.Common.{◌≡◌, ℕ, ◌+◌, ◌*◌, ◌^◌, zero, s
 use Rattle.std.specs.List.{list_all}
 use Rattle.std.specs.Str.Parse.{digits_value_after, digits_value}
 use Rattle.std.proofs.Math.Nat.{pow-succ'}
+use Rattle.std.proofs.lemmas.Bool.{and_parts}
 use Rattle.std.proofs.lemmas.Bool.Decides.{nat_tests}
 use Rattle.std.proofs.lemmas.List.{take-append-drop}
 use Rattle.std.proofs.lemmas.List.Folds.{list_all-append}
 use Rattle.leg_lex.proofs.Decimals.{number_after-append}
-use Rattle.leg_lex.proofs.Digits.{front_true, rest_true}
 use Rattle.leg_lex.specs.Number.{is_length, millionths_of, millionths_in, microns_part, decimals}
 
 -- the digits are all the byte 48, a zero
@@ -22,13 +22,13 @@ shifted n k = rw (pow-succ' 10 k) (grind arith)
 zeros_shift : (n : ℕ) (zeros : List ℕ) → are_zeros zeros ≡ true → digits_value_after 10 n zeros ≡ n * 10 ^ length zeros
 zeros_shift n [] are = omega arith
 zeros_shift n (z ∷ zeros) are =
-    let is : z ≡ 48 = grind (arith, nat_tests, front_true (z == 48) (are_zeros zeros) are) in
-    rw is (zeros_shift (n * 10 + 0) zeros (rest_true (z == 48) (are_zeros zeros) are) ∙ shifted n (length zeros))
+    let is : z ≡ 48 = grind (arith, nat_tests, (and_parts (z == 48) (are_zeros zeros) are).0) in
+    rw is (zeros_shift (n * 10 + 0) zeros (and_parts (z == 48) (are_zeros zeros) are).1 ∙ shifted n (length zeros))
 
 zeros_drop : (k : ℕ) (zeros : List ℕ) → are_zeros zeros ≡ true → are_zeros (drop k zeros) ≡ true
 zeros_drop zero zeros are = are
 zeros_drop (suc k) [] are = refl
-zeros_drop (suc k) (z ∷ zeros) are = zeros_drop k zeros (rest_true (z == 48) _ are)
+zeros_drop (suc k) (z ∷ zeros) are = zeros_drop k zeros (and_parts (z == 48) _ are).1
 
 -- what stands after k digits is zeros, also where zeros follow
 zeros_beyond : (k : ℕ) (digits zeros : List ℕ) → are_zeros (drop k digits) ≡ true → are_zeros zeros ≡ true
@@ -56,4 +56,4 @@ exact before after are =
 
 pub millionths_exact : (word : List ℕ) → is_length word ≡ true
     → millionths_in word * 10 ^ length (decimals word) ≡ digits_value 10 (microns_part word ++ decimals word) * 10 ^ 6
-millionths_exact word is = exact (microns_part word) (decimals word) (rest_true _ (are_zeros (drop 6 (decimals word))) is)
+millionths_exact word is = exact (microns_part word) (decimals word) (and_parts _ (are_zeros (drop 6 (decimals word))) is).1

@@ -17,12 +17,14 @@ some_of P x y holds is =
 pub gives_some : {Y : Type 0} {P : Y → Type 0} (x : Y) → P x → Gives P (Some x)
 gives_some {P = P} x holds = record { given = λ y is. some_of P x y holds is }
 
-bind_given : {X Y : Type 0} (P : Y → Type 0) (Q : X → Type 0) (said : Option X) (next : X → Option Y) → Gives Q said → ((x : X) → Q x → Gives P (next x)) → Gives P (said >>= next)
+bind_given : {X Y : Type 0} (P : Y → Type 0) (Q : X → Type 0) (said : Option X) (next : X → Option Y) → Gives Q said → ((x : X) → Q x → Gives P (next x))
+    → Gives P (said >>= next)
 bind_given P Q None next first more = gives_none
 bind_given P Q (Some x) next first more = more x (first.given x refl)
 
 -- A step of which something is known, and then the steps after it.
-pub gives_bind : {X Y : Type 0} {P : Y → Type 0} {Q : X → Type 0} {said : Option X} {next : X → Option Y} → Gives Q said → ((x : X) → Q x → Gives P (next x)) → Gives P (said >>= next)
+pub gives_bind : {X Y : Type 0} {P : Y → Type 0} {Q : X → Type 0} {said : Option X} {next : X → Option Y} → Gives Q said → ((x : X) → Q x → Gives P (next x))
+    → Gives P (said >>= next)
 gives_bind {P = P} {Q = Q} {said = said} {next = next} first more = bind_given P Q said next first more
 
 skip_given : {X Y : Type 0} (P : Y → Type 0) (said : Option X) (next : X → Option Y) → ((x : X) → Gives P (next x)) → Gives P (said >>= next)
@@ -38,7 +40,8 @@ pub gives_itself : {Y : Type 0} (said : Option Y) → Gives (λ y. said ≡ Some
 gives_itself said = record { given = λ y is. is }
 
 -- A choice, by a test that is known to hold or not.
-pub gives_choice : {Y : Type 0} {P : Y → Type 0} (test : Bool) {a b : Option Y} → (test ≡ true → Gives P a) → (test ≡ false → Gives P b) → Gives P (if test then a else b)
+pub gives_choice : {Y : Type 0} {P : Y → Type 0} (test : Bool) {a b : Option Y} → (test ≡ true → Gives P a) → (test ≡ false → Gives P b)
+    → Gives P (if test then a else b)
 gives_choice true a b = a refl
 gives_choice false a b = b refl
 

@@ -18,7 +18,10 @@ mod WordsAt
 mod StatementSearch
 -- What the proofs of other crates cite
 pub mod Parts
+pub mod PieceKinds
+pub mod InBits
 pub mod Gives
+pub mod GivesAll
 pub mod Until
 pub mod EachElement
 pub mod Shorter

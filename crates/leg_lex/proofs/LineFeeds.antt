@@ -1,12 +1,9 @@
 -- Where a piece has no line feed.
 use Rattle.std.proofs.Common.{◌≡◌, ◌≢◌, ℕ, ◌≤◌, false, List, [], ◌∷◌, length, get_or, count_by, refl, sym, ap, subst, arith}
 use Rattle.std.proofs.lemmas.Bool.{ne_eqb}
-use Rattle.std.proofs.lemmas.Bool.Decides.{nat_tests}
 use Rattle.leg_lex.specs.Cut.{Kind, White, Comment, Quoted, Plain, kind_of, Ends, IsPiece, is_white, is_line_feed}
 use Rattle.leg_lex.proofs.Runs.{runs_count}
-
-white_feeds : (b : ℕ) → is_white b ≡ false → is_line_feed b ≡ false
-white_feeds b h = grind (arith, nat_tests)
+use Rattle.leg_lex.proofs.PieceKinds.{quoted_byte, white_feeds}
 
 count_after : (b : ℕ) (bytes : List ℕ) → is_line_feed b ≡ false → count_by is_line_feed bytes ≡ 0 → 0 ≡ count_by is_line_feed (b ∷ bytes)
 count_after b bytes h g = rw h (sym g)
@@ -14,10 +11,8 @@ count_after b bytes h g = rw h (sym g)
 plain_feeds : (kind : Kind) (b : ℕ) → kind_of b ≡ kind → kind ≢ White → is_line_feed b ≡ false
 plain_feeds kind b is_kind other = ne_eqb b 10 (λ e. other (sym (subst (λ x. kind_of x ≡ kind) e is_kind)))
 
-quoted_byte : (b : ℕ) → kind_of b ≡ Quoted → b ≡ 34
-quoted_byte b h = grind (arith, nat_tests)
-
-ends_feeds : (kind : Kind) (b : ℕ) (bytes after : List ℕ) → kind_of b ≡ kind → Ends kind b bytes after → (b ∷ bytes) ≢ 10 ∷ [] → b ≢ 34 → 0 ≡ count_by is_line_feed (b ∷ bytes)
+ends_feeds : (kind : Kind) (b : ℕ) (bytes after : List ℕ) → kind_of b ≡ kind → Ends kind b bytes after → (b ∷ bytes) ≢ 10 ∷ [] → b ≢ 34
+    → 0 ≡ count_by is_line_feed (b ∷ bytes)
 ends_feeds White b bytes after is_kind ends other quote =
     count_after b bytes (ne_eqb b 10 (λ e. other cc)) (rw ends refl)
 ends_feeds Comment b bytes after is_kind ends other quote =

@@ -19,7 +19,8 @@ module _ {X : Type 0} (bytes : X → List ℕ) where
   later mark i t ts none = λ k d less there. none (suc k) d (omega arith) (omega arith)
 
   -- the words are cut at the first such mark
-  pub cut_there : (mark i : ℕ) (d : X) (ts : List X) → i < length ts → is_this mark (bytes (get_or ts i d)) ≡ true → NoneBefore mark i ts → up_to (is_this mark) (map bytes ts) ≡ Some (map bytes (take i ts), map bytes (drop (i + 1) ts))
+  pub cut_there : (mark i : ℕ) (d : X) (ts : List X) → i < length ts → is_this mark (bytes (get_or ts i d)) ≡ true → NoneBefore mark i ts
+      → up_to (is_this mark) (map bytes ts) ≡ Some (map bytes (take i ts), map bytes (drop (i + 1) ts))
   unfolding up_to
   cut_there mark i d [] less is none = absurd (omega arith)
   cut_there mark zero d (t ∷ ts) less is none = rw is refl
@@ -48,18 +49,21 @@ pub split_nowhere : (ends : List ℕ → Bool) (words : Words) → up_to ends wo
 unfolding up_to
 split_nowhere ends [] none = refl
 split_nowhere ends (word ∷ words) none = by (split_nowhere ends words) (ends word) refl where
-  by : (up_to ends words ≡ None → slice_split ends words ≡ words ∷ []) → (here : Bool) → ends word ≡ here → slice_split ends (word ∷ words) ≡ (word ∷ words) ∷ []
+  by : (up_to ends words ≡ None → slice_split ends words ≡ words ∷ []) → (here : Bool) → ends word ≡ here
+      → slice_split ends (word ∷ words) ≡ (word ∷ words) ∷ []
   by rest true here = absurd (let f : ⊥ = cc (rw here at none) in f)
   by rest false here =
       let there : up_to ends words ≡ None = none_later (up_to ends words) word (rw here at none) in
       rw (here, rest there) refl
 
 -- the part before the first such word, and the other parts
-pub split_there : (ends : List ℕ → Bool) (words front after : Words) → up_to ends words ≡ Some (front, after) → slice_split ends words ≡ front ∷ slice_split ends after
+pub split_there : (ends : List ℕ → Bool) (words front after : Words) → up_to ends words ≡ Some (front, after)
+    → slice_split ends words ≡ front ∷ slice_split ends after
 unfolding up_to
 split_there ends [] front after cut = absurd (let f : ⊥ = cc in f)
 split_there ends (word ∷ words) front after cut = by (split_there ends words) (ends word) refl (up_to ends words) refl where
-  by : ((f a : Words) → up_to ends words ≡ Some (f, a) → slice_split ends words ≡ f ∷ slice_split ends a) → (here : Bool) → ends word ≡ here → (said : Option (Words × Words)) → up_to ends words ≡ said → slice_split ends (word ∷ words) ≡ front ∷ slice_split ends after
+  by : ((f a : Words) → up_to ends words ≡ Some (f, a) → slice_split ends words ≡ f ∷ slice_split ends a) → (here : Bool) → ends word ≡ here
+      → (said : Option (Words × Words)) → up_to ends words ≡ said → slice_split ends (word ∷ words) ≡ front ∷ slice_split ends after
   by rest true here said is =
       let same : ◌≡◌ {A = Option (Words × Words)} (Some ([], words)) (Some (front, after)) = rw here at cut in
       rw (here, ← made_is [] front words after same, ← rest_is [] front words after same) refl

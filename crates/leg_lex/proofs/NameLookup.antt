@@ -44,21 +44,25 @@ some_suc None e = refl
 some_suc (Some n) e = absurd (let f : ⊥ = cc in f)
 
 -- A name that isn't there is neither the first nor among the others.
-pub none_parts : (name first : List ℕ) (names : List (List ℕ)) → place_of name (first ∷ names) ≡ None → (bytes_eq name first ≡ false) × (place_of name names ≡ None)
+pub none_parts : (name first : List ℕ) (names : List (List ℕ)) → place_of name (first ∷ names) ≡ None
+    → (bytes_eq name first ≡ false) × (place_of name names ≡ None)
 none_parts name first names none = by (bytes_eq name first) refl where
   by : (same : Bool) → bytes_eq name first ≡ same → (bytes_eq name first ≡ false) × (place_of name names ≡ None)
   by true same = absurd (let f : ⊥ = cc (place_first name first names same) in f)
   by false apart = (apart, some_suc (place_of name names) (sym (place_later name first names apart) ∙ none))
 
 -- After a push of a name that isn't there, that name has the last place, and the others have theirs.
-pub place_of_push : (name : List ℕ) (names : List (List ℕ)) → place_of name names ≡ None → (other : List ℕ) → place_of other (names ++ name ∷ []) ≡ cond (bytes_eq name other) (Some (length names)) (place_of other names)
+pub place_of_push : (name : List ℕ) (names : List (List ℕ)) → place_of name names ≡ None → (other : List ℕ)
+    → place_of other (names ++ name ∷ []) ≡ cond (bytes_eq name other) (Some (length names)) (place_of other names)
 place_of_push name [] none other = rw (same_other_way other name) refl
 place_of_push name (first ∷ names) none other =
     by (place_of_push name names parts.1 other) (bytes_eq other first) refl (bytes_eq name other) refl where
       parts : (bytes_eq name first ≡ false) × (place_of name names ≡ None)
       parts = none_parts name first names none
 
-      by : place_of other (names ++ name ∷ []) ≡ cond (bytes_eq name other) (Some (length names)) (place_of other names) → (here : Bool) → bytes_eq other first ≡ here → (new : Bool) → bytes_eq name other ≡ new → place_of other (first ∷ names ++ name ∷ []) ≡ cond (bytes_eq name other) (Some (length (first ∷ names))) (place_of other (first ∷ names))
+      by : place_of other (names ++ name ∷ []) ≡ cond (bytes_eq name other) (Some (length names)) (place_of other names) → (here : Bool)
+          → bytes_eq other first ≡ here → (new : Bool) → bytes_eq name other ≡ new
+          → place_of other (first ∷ names ++ name ∷ []) ≡ cond (bytes_eq name other) (Some (length (first ∷ names))) (place_of other (first ∷ names))
       by rest true here true new =
           absurd (names_apart name first parts.0 (same_name name other new ∙ same_name other first here))
       by rest true here false new = rw (here, new) refl
@@ -75,7 +79,8 @@ pub record IsPlacedOn (name : List ℕ) (names : List (List ℕ)) (i : ℕ) : Ty
 pub place_stands : (name : List ℕ) (names : List (List ℕ)) (i : ℕ) → place_of name names ≡ Some i → IsPlacedOn name names i
 place_stands name [] i found = absurd (let f : ⊥ = cc in f)
 place_stands name (first ∷ names) i found = by (place_stands name names) (bytes_eq name first) refl (place_of name names) refl where
-  by : ((k : ℕ) → place_of name names ≡ Some k → IsPlacedOn name names k) → (here : Bool) → bytes_eq name first ≡ here → (o : Option ℕ) → place_of name names ≡ o → IsPlacedOn name (first ∷ names) i
+  by : ((k : ℕ) → place_of name names ≡ Some k → IsPlacedOn name names k) → (here : Bool) → bytes_eq name first ≡ here → (o : Option ℕ)
+      → place_of name names ≡ o → IsPlacedOn name (first ∷ names) i
   by rest true here o is =
       let zeroth : i ≡ 0 = cc (place_first name first names here) in
       rw zeroth (record {
@@ -97,14 +102,16 @@ place_stands name (first ∷ names) i found = by (place_stands name names) (byte
         none_before j rest (suc k) d less = rest k d (omega arith)
 
 -- A place that is found among the names of things is a thing's.
-pub place_in_list : {X : Type 0} (name_of : X → List ℕ) (name : List ℕ) (xs : List X) (found : Option ℕ) → found ≡ place_of name (map name_of xs) → IfSome found (λ k. k < length xs)
+pub place_in_list : {X : Type 0} (name_of : X → List ℕ) (name : List ℕ) (xs : List X) (found : Option ℕ) → found ≡ place_of name (map name_of xs)
+    → IfSome found (λ k. k < length xs)
 place_in_list name_of name xs None is = tt
 place_in_list name_of name xs (Some k) is =
     let within = (place_stands name (map name_of xs) k (sym is)).within in
     rw length-map at within
 
 -- and so many things fit as stand up to it, where all do
-pub fits_up_to : (Fits : ℕ → Type 0) → ((m n : ℕ) → m ≤ n → Fits n → Fits m) → (count : ℕ) → Fits count → (found : Option ℕ) → IfSome found (λ k. k < count) → IfSome found (λ k. Fits (k + 1))
+pub fits_up_to : (Fits : ℕ → Type 0) → ((m n : ℕ) → m ≤ n → Fits n → Fits m) → (count : ℕ) → Fits count → (found : Option ℕ) → IfSome found (λ k. k < count)
+    → IfSome found (λ k. Fits (k + 1))
 fits_up_to Fits fewer count all None within = tt
 fits_up_to Fits fewer count all (Some k) within = fewer (k + 1) count (omega (arith, within)) all
 
@@ -117,7 +124,10 @@ stands_nowhere name (first ∷ names) none =
     rw (apart, rest) refl
 
 -- An index that has each name's place has it after a push as well.
-pub index_push : {S : Type 0} (name : Bor (List ℕ)) (m n : HashMap (Bor (List ℕ)) ℕ S) (names after : List (List ℕ)) (place : ℕ) → place_of name.now names ≡ None → ((q : List ℕ) → hash.get_by (λ key. bytes_eq q key.now) m ≡ place_of q names) → hash.UpdatesBy (λ x y. bytes_eq x.now y.now) (λ key. bytes_eq name.now key.now) m n (Some place) → place ≡ length names → after ≡ names ++ name.now ∷ [] → (q : List ℕ) → hash.get_by (λ key. bytes_eq q key.now) n ≡ place_of q after
+pub index_push : {S : Type 0} (name : Bor (List ℕ)) (m n : HashMap (Bor (List ℕ)) ℕ S) (names after : List (List ℕ)) (place : ℕ)
+    → place_of name.now names ≡ None → ((q : List ℕ) → hash.get_by (λ key. bytes_eq q key.now) m ≡ place_of q names)
+    → hash.UpdatesBy (λ x y. bytes_eq x.now y.now) (λ key. bytes_eq name.now key.now) m n (Some place) → place ≡ length names → after ≡ names ++ name.now ∷ []
+    → (q : List ℕ) → hash.get_by (λ key. bytes_eq q key.now) n ≡ place_of q after
 index_push name m n names after place none places updates last more q =
     hash_map_updates_str name.now m n (Some place) updates q
     ∙ ap (λ o. cond (bytes_eq name.now q) (Some place) o) (places q)

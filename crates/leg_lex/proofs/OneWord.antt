@@ -4,30 +4,22 @@ use Rattle.std.specs.List.{list_any}
 use Rattle.std.specs.Option.{option_eq}
 use Rattle.std.proofs.lemmas.Bool.{eqb-true, eq-eqb, both_ways}
 use Rattle.std.proofs.lemmas.Bool.Decides.{nat_tests}
-use Rattle.std.proofs.lemmas.List.{append-nil, nil_from_length, length-take, take-append-drop, take_all, drop_all}
-use Rattle.leg_lex.specs.Cut.{Kind, White, Comment, Quoted, Plain, kind_of, Closes, Ends, RunsTo, IsPiece, is_white}
+use Rattle.std.proofs.lemmas.List.{append-nil, length-take, take-append-drop, take_all, drop_all}
+use Rattle.leg_lex.specs.Cut.{Quoted, Plain, kind_of, Closes, Ends, RunsTo, IsPiece, is_white}
 use Rattle.leg_lex.specs.Words.{is_plain_kind, is_plain, closes, is_closed}
 use Rattle.leg_lex.proofs.Cuts.{piece_same}
+use Rattle.leg_lex.proofs.PieceKinds.{quoted_byte, quoted_here, closes_surely, plain_here}
 
 -- the test of a quoted word's end decides it
-pub closes_surely : (before : ℕ) (bytes : List ℕ) → closes before bytes ≡ true → Closes before bytes
-closes_surely before [] test = cc
-closes_surely before (b ∷ bytes) test = by (b == 34 && not (before == 92)) bytes (closes_surely b bytes) test where
-  by : (end : Bool) (bytes : List ℕ) → (closes b bytes ≡ true → Closes b bytes) → (if end then length bytes == 0 else closes b bytes) ≡ true → MatchBool end (bytes ≡ []) (Closes b bytes)
-  by true bytes later test = nil_from_length bytes (eqb-true _ _ test)
-  by false bytes later test = later test
-
 pub closes_always : (before : ℕ) (bytes : List ℕ) → Closes before bytes → closes before bytes ≡ true
 closes_always before [] ends = absurd ends
 closes_always before (b ∷ bytes) ends = by (b == 34 && not (before == 92)) bytes (closes_always b bytes) ends where
-  by : (end : Bool) (bytes : List ℕ) → (Closes b bytes → closes b bytes ≡ true) → MatchBool end (bytes ≡ []) (Closes b bytes) → (if end then length bytes == 0 else closes b bytes) ≡ true
+  by : (end : Bool) (bytes : List ℕ) → (Closes b bytes → closes b bytes ≡ true) → MatchBool end (bytes ≡ []) (Closes b bytes)
+      → (if end then length bytes == 0 else closes b bytes) ≡ true
   by true bytes later ends = rw ends refl
   by false bytes later ends = later ends
 
 -- A quoted word is one piece of a text, and the whole of these bytes.
-quoted_here : (b : ℕ) → b ≡ 34 → kind_of b ≡ Quoted
-quoted_here b e = rw e refl
-
 is_quoted_piece : (word : List ℕ) → get_or word 0 0 ≡ 34 → IsPiece word [] → is_closed word ≡ true
 is_quoted_piece [] quote is = absurd is
 is_quoted_piece (b ∷ bytes) quote is =
@@ -46,7 +38,8 @@ not_quoted_piece (b ∷ bytes) none = by (is_closed (b ∷ bytes)) refl where
 
 -- The piece that these bytes begin with is all of them, or they are no quoted word.
 pub piece_is_all : (word : List ℕ) (n : ℕ) → get_or word 0 0 ≡ 34 → IsPiece (take n word) (drop n word) → n ≡ length word → is_closed word ≡ true
-piece_is_all word n quote is all = is_quoted_piece word quote (rw (all, take_all (length word) word (omega arith), drop_all (length word) word (omega arith)) at is)
+piece_is_all word n quote is all =
+    is_quoted_piece word quote (rw (all, take_all (length word) word (omega arith), drop_all (length word) word (omega arith)) at is)
 
 pub piece_is_less : (word : List ℕ) (n : ℕ) → IsPiece (take n word) (drop n word) → n ≤ length word → n ≢ length word → is_closed word ≡ false
 piece_is_less word n is within other = not_quoted_piece word (λ whole.
@@ -58,7 +51,9 @@ no_piece word none = not_quoted_piece word (λ whole.
     none (length word) (rw (take_all (length word) word (omega arith), drop_all (length word) word (omega arith)) whole))
 
 -- The test of a quoted word, by the piece that these bytes begin with.
-pub closed_by_piece : (word : List ℕ) (piece : Option ℕ) → get_or word 0 0 ≡ 34 → MatchOption piece ((n : ℕ) → ¬ IsPiece (take n word) (drop n word)) (λ n. IsPiece (take n word) (drop n word)) → IfSome piece (λ n. n ≤ length word) → option_eq (λ (a b : ℕ). a == b) piece (Some (length word)) ≡ is_closed word
+pub closed_by_piece : (word : List ℕ) (piece : Option ℕ) → get_or word 0 0 ≡ 34
+    → MatchOption piece ((n : ℕ) → ¬ IsPiece (take n word) (drop n word)) (λ n. IsPiece (take n word) (drop n word)) → IfSome piece (λ n. n ≤ length word)
+    → option_eq (λ (a b : ℕ). a == b) piece (Some (length word)) ≡ is_closed word
 closed_by_piece word None quote none within = sym (no_piece word none)
 closed_by_piece word (Some n) quote is within = by (n == length word) refl where
   by : (all : Bool) → (n == length word) ≡ all → (n == length word) ≡ is_closed word
@@ -66,17 +61,6 @@ closed_by_piece word (Some n) quote is within = by (n == length word) refl where
   by false less = less ∙ sym (piece_is_less word n is within (λ all. both_ways (n == length word) less (eq-eqb _ _ all)))
 
 -- By the pieces of texts: a plain word is a plain piece, and a quoted word is a quoted one.
-pub plain_here : (b : ℕ) → is_plain_kind (kind_of b) ≡ true → kind_of b ≡ Plain
-plain_here b test = by (kind_of b) test where
-  by : (kind : Kind) → is_plain_kind kind ≡ true → kind ≡ Plain
-  by White test = cc
-  by Comment test = cc
-  by Quoted test = cc
-  by Plain test = refl
-
-quote_there : (b : ℕ) → kind_of b ≡ Quoted → b ≡ 34
-quote_there b h = grind (arith, nat_tests)
-
 runs_to_end : (bytes : List ℕ) → list_any is_white bytes ≡ false → RunsTo is_white bytes []
 runs_to_end [] none = tt
 runs_to_end (b ∷ bytes) none = by (runs_to_end bytes) (is_white b) refl where
@@ -112,4 +96,4 @@ closed_is_piece b bytes = (there, back) where
       (kind, subst (λ k. Ends k b bytes []) (sym kind) (closes_surely b bytes ends))
 
   back : (kind_of b ≡ Quoted) × IsPiece (b ∷ bytes) [] → IsTrue (is_closed (b ∷ bytes))
-  back (is, piece) = is_quoted_piece (b ∷ bytes) (quote_there b is) piece
+  back (is, piece) = is_quoted_piece (b ∷ bytes) (quoted_byte b is) piece

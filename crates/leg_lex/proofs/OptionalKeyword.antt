@@ -4,7 +4,8 @@ use Rattle.std.specs.List.{position_or_len, after_first}
 use Rattle.leg_lex.specs.Words.{Words, is_at, is_keyword}
 
 -- one word more, which isn't the keyword
-pub skipped_on : (keyword : List ℕ) (words : Words) → (words ≡ [] → ⊥) → is_at keyword words ≡ false → after_first (is_keyword keyword) (drop 1 words) ≡ after_first (is_keyword keyword) words
+pub skipped_on : (keyword : List ℕ) (words : Words) → (words ≡ [] → ⊥) → is_at keyword words ≡ false
+    → after_first (is_keyword keyword) (drop 1 words) ≡ after_first (is_keyword keyword) words
 skipped_on keyword [] some other = absurd (some refl)
 skipped_on keyword (word ∷ words) some other =
     let place = position_or_len (is_keyword keyword) words in

@@ -2,6 +2,7 @@
 use Rattle.std.proofs.Common.{◌≡◌, ℕ, suc, ◌<◌, Bool, true, false, List, [], ◌∷◌, length, Option, None, Some, is_some, refl, sym, ap, ◌∙◌, arith}
 use Rattle.std.specs.Option.{option_or}
 use Rattle.std.proofs.lemmas.Bool.{false≢true}
+use Rattle.leg_lemmas.proofs.Options.{none_is}
 use Rattle.leg_lex.specs.Words.{Words, is_at, is_keyword, next_at, keyword_at}
 use Rattle.leg_lex.specs.Past.{past}
 use Rattle.leg_lex.proofs.Parts.{rest_is}
@@ -16,10 +17,6 @@ none_first : {X : Type 0} (o p : Option X) → is_some o ≡ false → option_or
 none_first None p none = refl
 none_first (Some x) p none = absurd (false≢true (sym none))
 
-none_is : {X : Type 0} (o : Option X) → is_some o ≡ false → o ≡ None
-none_is None none = refl
-none_is (Some x) none = absurd (false≢true (sym none))
-
 module _ {Y : Type 0} (form : Words → Option (Y × Words)) where
   -- The form stands here.
   pub past_here : (words : Words) → is_some (form words) ≡ true → past form words ≡ form words
@@ -28,7 +25,8 @@ module _ {Y : Type 0} (form : Words → Option (Y × Words)) where
   past_here (word ∷ words) some = some_first (form (word ∷ words)) (past form words) some
 
   -- The form doesn't stand here, and a word is read past.
-  pub past_later : (words : Words) (word : List ℕ) (rest : Words) → next_at words ≡ Some (word, rest) → is_some (form words) ≡ false → past form words ≡ past form rest
+  pub past_later : (words : Words) (word : List ℕ) (rest : Words) → next_at words ≡ Some (word, rest) → is_some (form words) ≡ false
+      → past form words ≡ past form rest
   unfolding past next_at
   past_later [] word rest next none = absurd (let f : ⊥ = cc in f)
   past_later (first ∷ words) word rest next none =
@@ -45,7 +43,8 @@ module _ {Y : Type 0} (form : Words → Option (Y × Words)) where
   unfolding past
   past_below below [] = below []
   past_below below (word ∷ words) = by (below (word ∷ words)) (past_below below words) (form (word ∷ words)) refl where
-    by : Below (suc (length words)) (form (word ∷ words)) → Below (length words) (past form words) → (said : Option (Y × Words)) → form (word ∷ words) ≡ said → Below (suc (length words)) (option_or (form (word ∷ words)) (past form words))
+    by : Below (suc (length words)) (form (word ∷ words)) → Below (length words) (past form words) → (said : Option (Y × Words)) → form (word ∷ words) ≡ said
+        → Below (suc (length words)) (option_or (form (word ∷ words)) (past form words))
     by here there None is = rw is (below_more (omega arith) there)
     by here there (Some y) is = rw is (rw is at here)
 
@@ -64,7 +63,8 @@ keyword_is_there keyword (word ∷ words) = by (is_keyword keyword word) refl wh
 pub keyword_here : (keyword : List ℕ) (words : Words) → is_at keyword words ≡ true → past (keyword_at keyword) words ≡ keyword_at keyword words
 keyword_here keyword words there = past_here (keyword_at keyword) words (keyword_is_there keyword words ∙ there)
 
-pub keyword_later : (keyword : List ℕ) (words : Words) (word : List ℕ) (rest : Words) → next_at words ≡ Some (word, rest) → is_at keyword words ≡ false → past (keyword_at keyword) words ≡ past (keyword_at keyword) rest
+pub keyword_later : (keyword : List ℕ) (words : Words) (word : List ℕ) (rest : Words) → next_at words ≡ Some (word, rest) → is_at keyword words ≡ false
+    → past (keyword_at keyword) words ≡ past (keyword_at keyword) rest
 keyword_later keyword words word rest next other =
     past_later (keyword_at keyword) words word rest next (keyword_is_there keyword words ∙ other)
 

@@ -5,7 +5,8 @@ use Rattle.std.proofs.lemmas.Bool.{both_ways, false_from_ne_true}
 use Rattle.memchr.specs.Find.{IsFirstByte}
 use Rattle.leg_lex.specs.Cut.{RunsTo}
 
-runs_by_place : (stop : ℕ → Bool) (xs : List ℕ) (n : ℕ) → n ≤ length xs → ((k : ℕ) → k < n → stop (get_or xs k 0) ≡ false) → (n < length xs → stop (get_or xs n 0) ≡ true) → RunsTo stop (take n xs) (drop n xs)
+runs_by_place : (stop : ℕ → Bool) (xs : List ℕ) (n : ℕ) → n ≤ length xs → ((k : ℕ) → k < n → stop (get_or xs k 0) ≡ false)
+    → (n < length xs → stop (get_or xs n 0) ≡ true) → RunsTo stop (take n xs) (drop n xs)
 runs_by_place stop [] zero within before at = tt
 runs_by_place stop [] (suc n) within before at = tt
 runs_by_place stop (x ∷ xs) zero within before at = at (omega arith)
@@ -13,7 +14,8 @@ runs_by_place stop (x ∷ xs) (suc n) within before at =
     (before 0 (omega arith), runs_by_place stop xs n (omega arith) (λ k h. before (suc k) (omega arith)) (λ h. at (omega arith)))
 
 -- up to the first byte that passes a test
-pub runs_to_first : (stop : ℕ → Bool) (xs : List ℕ) (r : Option ℕ) → IsFirstByte stop xs r → RunsTo stop (take (unwrap_or r (length xs)) xs) (drop (unwrap_or r (length xs)) xs)
+pub runs_to_first : (stop : ℕ → Bool) (xs : List ℕ) (r : Option ℕ) → IsFirstByte stop xs r
+    → RunsTo stop (take (unwrap_or r (length xs)) xs) (drop (unwrap_or r (length xs)) xs)
 runs_to_first stop xs None first =
     runs_by_place stop xs (length xs) (omega arith) (λ k h. false_from_ne_true _ (first k (omega arith) h)) (λ h. absurd (omega arith))
 runs_to_first stop xs (Some n) first =

@@ -8,6 +8,7 @@ use Rattle.leg_lex.specs.Cut.{Kind, White, Comment, Quoted, Plain, kind_of, Ends
 use Rattle.leg_lex.specs.Tokens.{plain_words, words_of, words_in, words_from, AreTokens}
 use Rattle.leg_lex.specs.Words.{is_mark, is_plain, is_closed, is_word}
 use Rattle.leg_lex.proofs.OneWord.{closes_always, no_white}
+use Rattle.leg_lex.proofs.PieceKinds.{quoted_byte}
 
 -- a mark, a name or a quoted word
 abbrev pub IsAWord : Word → Type 0
@@ -30,7 +31,8 @@ none_taken : (n : ℕ) (bytes : List ℕ) → list_any is_white bytes ≡ false 
 none_taken zero bytes none = refl
 none_taken (suc n) [] none = refl
 none_taken (suc n) (b ∷ bytes) none = by (none_taken n bytes) (is_white b) refl where
-  by : (list_any is_white bytes ≡ false → list_any is_white (take n bytes) ≡ false) → (white : Bool) → is_white b ≡ white → list_any is_white (take (suc n) (b ∷ bytes)) ≡ false
+  by : (list_any is_white bytes ≡ false → list_any is_white (take n bytes) ≡ false) → (white : Bool) → is_white b ≡ white
+      → list_any is_white (take (suc n) (b ∷ bytes)) ≡ false
   by later true is = absurd (let e : ⊥ = cc (rw is at none) in e)
   by later false is = rw (is, later (rw is at none)) refl
 
@@ -49,21 +51,19 @@ plain_words_are line b bytes is none = by (nat_lt 0 last && slice_index (b ∷ b
       let some : 0 < last = grind (arith, nat_tests) in
       let end : Word = record { text = 59 ∷ []; line = line } in
       let front : Word = record { text = take last (b ∷ bytes); line = line } in
-      let both : All IsAWord (front ∷ end ∷ []) = All-cons IsAWord front (end ∷ []) (plain_is front.text (plain_before b last bytes is none some)) (All-cons IsAWord end [] refl (All-nil IsAWord)) in
+      let both : All IsAWord (front ∷ end ∷ []) =
+      All-cons IsAWord front (end ∷ []) (plain_is front.text (plain_before b last bytes is none some)) (All-cons IsAWord end [] refl (All-nil IsAWord)) in
       rw two both
   by false one =
       let whole : Word = record { text = b ∷ bytes; line = line } in
       let only : All IsAWord (whole ∷ []) = All-cons IsAWord whole [] (plain_is (b ∷ bytes) (rw (is, none) refl)) (All-nil IsAWord) in
       rw one only
 
-quote_here : (b : ℕ) → kind_of b ≡ Quoted → b ≡ 34
-quote_here b h = grind (arith, nat_tests)
-
 piece_words : (kind : Kind) (line b : ℕ) (bytes after : List ℕ) → kind_of b ≡ kind → Ends kind b bytes after → All IsAWord (words_of kind line (b ∷ bytes))
 piece_words White line b bytes after is ends = All-nil IsAWord
 piece_words Comment line b bytes after is ends = All-nil IsAWord
 piece_words Quoted line b bytes after is ends =
-    let quote : b ≡ 34 = quote_here b is in
+    let quote : b ≡ 34 = quoted_byte b is in
     let closed : is_closed (b ∷ bytes) ≡ true = rw (quote, closes_always 34 bytes (rw quote at ends)) refl in
     All-cons IsAWord (record { text = b ∷ bytes; line = line }) [] (quoted_is (b ∷ bytes) closed) (All-nil IsAWord)
 piece_words Plain line b bytes after is ends = plain_words_are line b bytes is (no_white bytes after ends)
@@ -72,7 +72,8 @@ words_are : (line : ℕ) (text rest : List ℕ) (pieces : List (List ℕ)) → C
 words_are line text rest [] cut = All-nil IsAWord
 words_are line text rest ([] ∷ pieces) (after, here, is_piece, cut) = absurd is_piece
 words_are line text rest ((b ∷ bytes) ∷ pieces) (after, here, is_piece, cut) =
-    All-append IsAWord (words_in line (b ∷ bytes)) (words_from (line + count_by is_line_feed (b ∷ bytes)) pieces) (piece_words (kind_of b) line b bytes after refl is_piece) (words_are (line + count_by is_line_feed (b ∷ bytes)) after rest pieces cut)
+    All-append IsAWord (words_in line (b ∷ bytes)) (words_from (line + count_by is_line_feed (b ∷ bytes)) pieces)
+    (piece_words (kind_of b) line b bytes after refl is_piece) (words_are (line + count_by is_line_feed (b ∷ bytes)) after rest pieces cut)
 
 -- so no other words are those of a text
 pub texts_have_words : (text : List ℕ) (words : List Word) → AreTokens text words → All IsAWord words

@@ -34,7 +34,7 @@ fn word_len(text: &[u8]) -> usize
 }
 
 /// How long the plain word is that the text begins with.
-#[tactic(auto, using(crate::proofs::OneWord::plain_here))]
+#[tactic(auto, using(crate::proofs::PieceKinds::plain_here))]
 pub(crate) fn plain_len(text: &[u8]) -> usize
     requires some { 0 < length text.now }
     requires plain { is_plain_kind (kind_of (slice_index text.now 0)) ≡ true }

@@ -74,7 +74,8 @@ last_at_word [] there = refl
 last_at_word (word ∷ words) there = there
 
 -- one more form
-pub forms_on : (library next : RawLibraryModel) (words rest : Words) → lef_form_at library words ≡ Some (next, rest) → at_last words ≡ false → until at_last lef_form_at library words ≡ until at_last lef_form_at next rest
+pub forms_on : (library next : RawLibraryModel) (words rest : Words) → lef_form_at library words ≡ Some (next, rest) → at_last words ≡ false
+    → until at_last lef_form_at library words ≡ until at_last lef_form_at next rest
 forms_on library next words rest said more =
     loops.goes_on at_last lef_form_at form_shortens library next words rest more said
 
@@ -83,5 +84,6 @@ pub forms_end : (library : RawLibraryModel) (words : Words) → at_last words �
 forms_end library words stops = loops.ends at_last lef_form_at library words stops
 
 -- what stands there is no form
-pub forms_fail : (library : RawLibraryModel) (words : Words) → lef_form_at library words ≡ None → at_last words ≡ false → until at_last lef_form_at library words ≡ None
+pub forms_fail : (library : RawLibraryModel) (words : Words) → lef_form_at library words ≡ None → at_last words ≡ false
+    → until at_last lef_form_at library words ≡ None
 forms_fail library words said more = loops.fails at_last lef_form_at library words more said

@@ -40,11 +40,13 @@ module _ {X : Type 0} (test : X → Bool) where
   at_front xs i x less is = drop_more xs i x less ∙ ap (λ y. y ∷ drop (i + 1) xs) (sym is)
 
   -- the element that is sought
-  pub found_here : (xs : List X) (i : ℕ) (x : X) (found : Option X) → i < length xs → x ≡ get_or xs i x → test x ≡ true → find test (drop i xs) ≡ found → Some x ≡ found
+  pub found_here : (xs : List X) (i : ℕ) (x : X) (found : Option X) → i < length xs → x ≡ get_or xs i x → test x ≡ true → find test (drop i xs) ≡ found
+      → Some x ≡ found
   found_here xs i x found less is this same = rw (at_front xs i x less is, this) at same
 
   -- another
-  pub found_later : (xs : List X) (i : ℕ) (x : X) (found : Option X) → i < length xs → x ≡ get_or xs i x → test x ≡ false → find test (drop i xs) ≡ found → find test (drop (i + 1) xs) ≡ found
+  pub found_later : (xs : List X) (i : ℕ) (x : X) (found : Option X) → i < length xs → x ≡ get_or xs i x → test x ≡ false → find test (drop i xs) ≡ found
+      → find test (drop (i + 1) xs) ≡ found
   found_later xs i x found less is other same = rw (at_front xs i x less is, other) at same
 
   -- no element is left

@@ -62,7 +62,8 @@ macro_part_shortens library parts words =
     (below_if (is_at (codes "TIMING") words) (macro_timing_below parts words)
     (macro_statement_below parts words))))
 
-pub macro_part_shorter : (library : RawLibraryModel) (parts more : MacroParts) (words rest : Words) → macro_part library parts words ≡ Some (more, rest) → length rest < length words
+pub macro_part_shorter : (library : RawLibraryModel) (parts more : MacroParts) (words rest : Words) → macro_part library parts words ≡ Some (more, rest)
+    → length rest < length words
 macro_part_shorter library parts more words rest said = (macro_part_shortens library parts words).left more rest said
 
 -- one more part
@@ -86,7 +87,15 @@ macro_below library words =
     below_bind (omega arith) (until_below at_end (macro_part library) (macro_part_shortens library) no_macro_parts name.1) (λ parts no_more.
     below_ask (macro_said library parts.0.statements) (λ said.
     below_bind (omega arith) (end_of_below name.0 parts.1) (λ end last.
-    below_some (record { name = name.0; size = said.size; origin = said.origin; y_symmetric = said.y_symmetric; site = said.site; pins = parts.0.pins; obstructions = parts.0.obstructions }) end.1 last)))))
+    below_some (record {
+      name = name.0;
+      size = said.size;
+      origin = said.origin;
+      y_symmetric = said.y_symmetric;
+      site = said.site;
+      pins = parts.0.pins;
+      obstructions = parts.0.obstructions;
+    }) end.1 last)))))
 
 pub with_macro_below : (library : RawLibraryModel) (words : Words) → Below (length words) (with_macro library words)
 unfolding with_macro

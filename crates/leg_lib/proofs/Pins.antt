@@ -26,7 +26,8 @@ pin_part_shortens library parts words =
     (below_bind (omega arith) (statement_below words) (λ statement less.
     below_some (record parts { statements = parts.statements ++ statement.0 ∷ [] }) statement.1 less))
 
-pub pin_part_shorter : (library : RawLibraryModel) (parts more : PinParts) (words rest : Words) → pin_part library parts words ≡ Some (more, rest) → length rest < length words
+pub pin_part_shorter : (library : RawLibraryModel) (parts more : PinParts) (words rest : Words) → pin_part library parts words ≡ Some (more, rest)
+    → length rest < length words
 pin_part_shorter library parts more words rest said = (pin_part_shortens library parts words).left more rest said
 
 pub pin_below : (library : RawLibraryModel) (words : Words) → Below (length words) (pin_at library words)

@@ -9,7 +9,8 @@ use Rattle.leg_grammar.specs.Lef.Library.{Extend}
 module _ {X : Type 0} (text_of : X → List ℕ) where
   -- one more LEF
   pub extend_more : (lefs : List X) (i : ℕ) (d : X) (before library next : RawLibraryModel) → i < length lefs
-      → Extend before (take i (map text_of lefs)) library → Denotes (lef_in library) (text_of (get_or lefs i d)) next → Extend before (take (suc i) (map text_of lefs)) next
+      → Extend before (take i (map text_of lefs)) library → Denotes (lef_in library) (text_of (get_or lefs i d)) next
+      → Extend before (take (suc i) (map text_of lefs)) next
   extend_more [] i d before library next less so_far says = absurd (omega arith)
   extend_more (lef ∷ lefs) zero d before library next less so_far says = (next, subst (λ l. Denotes (lef_in l) (text_of lef) next) (sym so_far) says, refl)
   extend_more (lef ∷ lefs) (suc i) d before library next less so_far says =
@@ -17,7 +18,8 @@ module _ {X : Type 0} (text_of : X → List ℕ) where
 
   -- what is left to say after one more LEF
   pub rest_more : (lefs : List X) (i : ℕ) (d : X) (library next said : RawLibraryModel) → i < length lefs
-      → ((other : RawLibraryModel) → Denotes (lef_in library) (text_of (get_or lefs i d)) other → other ≡ next) → Extend library (drop i (map text_of lefs)) said → Extend next (drop (suc i) (map text_of lefs)) said
+      → ((other : RawLibraryModel) → Denotes (lef_in library) (text_of (get_or lefs i d)) other → other ≡ next)
+      → Extend library (drop i (map text_of lefs)) said → Extend next (drop (suc i) (map text_of lefs)) said
   rest_more [] i d library next said less only rest = absurd (omega arith)
   rest_more (lef ∷ lefs) zero d library next said less only rest = subst (λ n. Extend n (map text_of lefs) said) (only rest.0 rest.1) rest.2
   rest_more (lef ∷ lefs) (suc i) d library next said less only rest = rest_more lefs i d library next said (omega arith) only rest

@@ -31,7 +31,8 @@ with_site_below library words =
     below_some added site.1 less))
 
 -- A name that has no site isn't the name of one.
-pub found_nowhere : {X : Type 0} (name_of : X → List ℕ) (name : List ℕ) (xs : List X) → (place_of name (map name_of xs) >>= λ k. slice_get xs k) ≡ None → place_of name (map name_of xs) ≡ None
+pub found_nowhere : {X : Type 0} (name_of : X → List ℕ) (name : List ℕ) (xs : List X) → (place_of name (map name_of xs) >>= λ k. slice_get xs k) ≡ None
+    → place_of name (map name_of xs) ≡ None
 found_nowhere {X} name_of name xs none = by (place_of name (map name_of xs)) refl where
   by : (o : Option ℕ) → place_of name (map name_of xs) ≡ o → place_of name (map name_of xs) ≡ None
   by None is = is

@@ -2,6 +2,7 @@
 use Rattle.std.proofs.Common.{◌≡◌, Bool, true, false, if◌then◌else◌, List, Option, None, Some, IfSome, unwrap_or, ℤ, pos, int_lt, ◌≤ℤ◌, ◌<ℤ◌, arith, codes}
 use Rattle.std.specs.List.{find, after_first}
 use Rattle.std.proofs.lemmas.Int.{ints}
+use Rattle.leg_lemmas.proofs.Integers.{lt_from_test, least_from_test}
 use Rattle.leg_lex.specs.Words.{Words, is_keyword, length_at, keyword_at, name_at, end_of}
 use Rattle.leg_lex.specs.Statements.{statements_at, only, the}
 use Rattle.leg_lex.proofs.Gives.{Gives, gives_none, gives_some, gives_bind, gives_skip, gives_choice, gives_if}
@@ -12,14 +13,11 @@ use Rattle.leg_grammar.specs.Lef.Layer.{length_in, width_in, width_of_any, routi
 use Rattle.leg_lib_records.specs.Sound.{HasRawWidth, IsSoundRawLayer}
 
 -- What is read as a width is above 0.
-above_0 : (w : ℤ) → int_lt (pos 0) w ≡ true → pos 0 <ℤ w
-above_0 w less = grind (arith, ints)
-
 width_gives : (statement : Words) → Gives (λ w. pos 0 <ℤ w) (width_in statement)
 unfolding width_in
 width_gives statement =
     gives_skip (length_in statement) (λ width.
-    gives_choice (int_lt (pos 0) width) (λ less. gives_some width (above_0 width less)) (λ other. gives_none))
+    gives_choice (int_lt (pos 0) width) (λ less. gives_some width (lt_from_test (pos 0) width less)) (λ other. gives_none))
 
 any_width_gives : (found : Option Words) → Gives (λ width. IfSome width (λ w. pos 0 <ℤ w)) (width_of_any found)
 any_width_gives None = gives_some None tt
@@ -45,14 +43,11 @@ kind_gives statements =
     gives_if (is_keyword (codes "ROUTING") type) (routing_gives direction width wide) (other_gives (is_keyword (codes "CUT") type)))))))
 
 -- What is read as a spacing is at least 0.
-least_0 : (s : ℤ) → int_lt s (pos 0) ≡ false → pos 0 ≤ℤ s
-least_0 s least = grind (arith, ints)
-
 spacing_gives : (statement : Words) → Gives (λ s. pos 0 ≤ℤ s) (spacing_in statement)
 unfolding spacing_in
 spacing_gives statement =
     gives_skip (length_in statement) (λ spacing.
-    gives_choice (int_lt spacing (pos 0)) (λ less. gives_none) (λ least. gives_some spacing (least_0 spacing least)))
+    gives_choice (int_lt spacing (pos 0)) (λ less. gives_none) (λ least. gives_some spacing (least_from_test spacing (pos 0) least)))
 
 any_spacing_gives : (found : Option Words) → Gives (λ spacing. IfSome spacing (λ s. pos 0 ≤ℤ s)) (spacing_of_any found)
 any_spacing_gives None = gives_some None tt
@@ -65,14 +60,15 @@ second_gives row =
     gives_skip (length_at row) (λ width.
     gives_if (at_row_end width.1) (gives_some None tt) (
     gives_skip (length_at width.1) (λ spacing.
-    gives_choice (int_lt spacing.0 (pos 0)) (λ less. gives_none) (λ least. gives_some (Some spacing.0) (least_0 spacing.0 least))))))
+    gives_choice (int_lt spacing.0 (pos 0)) (λ less. gives_none) (λ least. gives_some (Some spacing.0) (least_from_test spacing.0 (pos 0) least))))))
 
 table_gives : (found : Option Words) → Gives (λ spacing. IfSome spacing (λ s. pos 0 ≤ℤ s)) (table_value_of_any found)
 unfolding table_value
 table_gives None = gives_some None tt
 table_gives (Some statement) = second_gives (after_first (is_keyword (codes "WIDTH")) statement)
 
-first_least : (written tabled : Option ℤ) → IfSome written (λ s. pos 0 ≤ℤ s) → IfSome tabled (λ s. pos 0 ≤ℤ s) → pos 0 ≤ℤ unwrap_or written (unwrap_or tabled (pos 0))
+first_least : (written tabled : Option ℤ) → IfSome written (λ s. pos 0 ≤ℤ s) → IfSome tabled (λ s. pos 0 ≤ℤ s)
+    → pos 0 ≤ℤ unwrap_or written (unwrap_or tabled (pos 0))
 first_least None None a b = omega (arith, ints)
 first_least None (Some s) a b = b
 first_least (Some s) tabled a b = a

@@ -1,6 +1,7 @@
 -- What is read as a name is one, and a size has area.
-use Rattle.std.proofs.Common.{◌≡◌, Bool, true, false, ◌&&◌, refl, Some, IsTrue, ℤ, pos, int_lt, ◌<ℤ◌, codes, arith}
-use Rattle.std.proofs.lemmas.Int.{ints}
+use Rattle.std.proofs.Common.{◌≡◌, true, ◌&&◌, Some, IsTrue, ℤ, pos, int_lt, codes}
+use Rattle.std.proofs.lemmas.Bool.{and_parts}
+use Rattle.leg_lemmas.proofs.Integers.{lt_from_test}
 use Rattle.leg_lex.specs.Words.{Words, is_name, next_at, keyword_at, name_at, length_at, end_of, nothing_at}
 use Rattle.leg_lex.specs.Until.{until, over}
 use Rattle.leg_lex.specs.Statements.{statements_at, the, at_end}
@@ -21,17 +22,10 @@ name_gives words =
     gives_skip (next_at words) (λ next.
     gives_choice (is_name next.0) (λ named. gives_some _ named) (λ none. gives_none))
 
-above_0 : (z : ℤ) → int_lt (pos 0) z ≡ true → pos 0 <ℤ z
-above_0 z above = grind (arith, ints)
-
-both : (a b : Bool) → (a && b) ≡ true → (a ≡ true) × (b ≡ true)
-both true b is = (refl, is)
-both false b is = absurd (let e : ⊥ = cc in e)
-
 both_above : (width height : ℤ) → (int_lt (pos 0) width && int_lt (pos 0) height) ≡ true → HasArea (record { width = width; height = height })
 both_above width height above =
-    let each = both (int_lt (pos 0) width) (int_lt (pos 0) height) above in
-    record { wide = above_0 width each.0; high = above_0 height each.1 }
+    let each = and_parts (int_lt (pos 0) width) (int_lt (pos 0) height) above in
+    record { wide = lt_from_test (pos 0) width each.0; high = lt_from_test (pos 0) height each.1 }
 
 size_gives : (statement : Words) → Gives HasArea (size_in statement)
 unfolding size_in
@@ -97,5 +91,6 @@ macro_gives library words =
     gives_skip (end_of name.0 parts.1) (λ end.
     gives_some _ named)))))
 
-pub macro_is_named : (library : RawLibraryModel) (words rest : Words) (master : RawMasterModel) → macro_at library words ≡ Some (master, rest) → IsTrue (is_name master.name)
+pub macro_is_named : (library : RawLibraryModel) (words rest : Words) (master : RawMasterModel) → macro_at library words ≡ Some (master, rest)
+    → IsTrue (is_name master.name)
 macro_is_named library words rest master said = (macro_gives library words).given (master, rest) said

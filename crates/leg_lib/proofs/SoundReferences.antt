@@ -1,51 +1,29 @@
 -- What a via or a macro that is read refers to is there: its layers, its site, and names of pins that are apart.
-use Rattle.std.proofs.Common.{◌≡◌, ℕ, ◌<◌, Bool, true, false, not, ◌&&◌, ◌||◌, if◌then◌else◌, List, [], ◌∷◌, ◌++◌, length, get_or, map, All, IfSome, Option, None, Some, is_none, IsTrue, refl, sym, subst, ap, ◌∙◌, codes, drop, arith}
-use Rattle.std.specs.List.{list_any}
-use Rattle.std.proofs.lemmas.List.{map-append, length-map}
+use Rattle.std.proofs.Common.{◌≡◌, ℕ, ◌<◌, Bool, true, false, not, ◌&&◌, ◌||◌, List, length, map, All, IfSome, Option, None, Some, is_none, IsTrue, refl, sym, codes}
 use Rattle.std.proofs.lemmas.List.Elements.{All-nil, All-push, All-append}
-use Rattle.leg_lex.specs.Words.{Words, is_name, is_at, keyword_at, name_at, end_at, end_of, nothing_at, word_at}
-use Rattle.leg_lex.specs.Until.{until, over}
+use Rattle.leg_lex.specs.Words.{Words, is_name, is_at, keyword_at, name_at, end_at, end_of, nothing_at}
+use Rattle.leg_lex.specs.Until.{over}
 use Rattle.leg_lex.specs.Past.{past}
 use Rattle.leg_lex.specs.Statements.{statement_at, statements_at, only, the, at_end}
-use Rattle.leg_lex.specs.NameLookup.{place_of, AreApart}
-use Rattle.leg_lex.proofs.Gives.{Gives, gives_none, gives_some, gives_bind, gives_skip, gives_choice, gives_if, gives_less}
-use Rattle.leg_lex.proofs.Until.{until_keeps}
-use Rattle.leg_lex.proofs.EachElement.{over_keeps}
-use Rattle.leg_lex.proofs.NameLookup.{apart_push, place_stands}
+use Rattle.leg_lex.specs.NameLookup.{place_of}
+use Rattle.leg_lex.proofs.Gives.{Gives, gives_none, gives_some, gives_bind, gives_skip, gives_choice, gives_if}
+use Rattle.leg_lex.proofs.GivesAll.{until_gives, over_gives, named_gives_within}
 use Rattle.leg_lib_records.specs.declared.raw.RawLayer.{RawLayer}
 use Rattle.leg_lib_records.specs.declared.raw.RawSite.{RawSite}
 use Rattle.leg_lib_records.specs.declared.raw.RawShape.{RawShape}
-use Rattle.leg_lib_records.specs.Records.{RawLibraryModel, RawViaModel, RawPinModel, RawMasterModel, raw_layer_names, raw_site_names}
+use Rattle.leg_lib_records.specs.Records.{RawLibraryModel, RawViaModel, RawPinModel, RawMasterModel}
 use Rattle.leg_lib_records.specs.Joins.{is_wiring_word, join_layers}
 use Rattle.leg_lib_records.specs.GoodVia.{raw_uses, raw_parts, is_raw_good_via}
 use Rattle.leg_lib_records.specs.LibraryNames.{AreNames}
 use Rattle.leg_lib_records.specs.References.{AreRawShapesOn, IsRawViaOf, IsRawMasterOf}
 use Rattle.leg_lib_records.proofs.LibraryNames.{no_names, names_push}
-use Rattle.leg_grammar.specs.Lef.Geometry.{Drawn, nothing_drawn, draws_metal, layer_of_geometry, drawn_rect, is_off_metal, is_other_shape, geometry_part, geometry_at, says_nothing}
+use Rattle.leg_grammar.specs.Lef.Geometry.{Drawn, nothing_drawn, draws_metal, layer_of_geometry, drawn_rect, is_off_metal, is_other_shape, geometry_part, geometry_at}
 use Rattle.leg_grammar.specs.Lef.Point.{rect_in, size_in}
 use Rattle.leg_grammar.specs.Lef.Via.{flags_at, ViaParts, no_via_parts, layer_of_via, spoils, via_part, is_good, kept, via_at}
 use Rattle.leg_grammar.specs.Lef.Pin.{PinParts, no_pin_parts, port_at, pin_part, supply_of_any, pin_at}
 use Rattle.leg_grammar.specs.declared.macro_statements.MacroStatements.{MacroStatements}
 use Rattle.leg_grammar.specs.Lef.Macro.{MacroParts, no_macro_parts, macro_pin, macro_obstruction, macro_density, macro_timing, macro_statement, macro_part, origin_of_any, symmetry_of_any, site_in, site_of_any, macro_said, macro_at}
 use Rattle.leg_lib.proofs.SoundNames.{name_gives}
-
--- A place that is found is one of the elements'.
-within_gives : {X : Type 0} (name_of : X → List ℕ) (name : List ℕ) (xs : List X) → Gives (λ k. k < length xs) (place_of name (map name_of xs))
-within_gives name_of name xs = record {
-  given = λ k is. let less = (place_stands name (map name_of xs) k is).within in rw length-map at less;
-}
-
--- What each form keeps, all forms keep.
-until_gives : {S : Type 0} (P : S → Type 0) (stop : Words → Bool) (form : S → Words → Option (S × Words)) → ((made : S) (words : Words) → P made → Gives (λ said. P said.0) (form made words)) → (made : S) (words : Words) → P made → Gives (λ said. P said.0) (until stop form made words)
-until_gives P stop form keeps made words holds = record {
-  given = λ y is. until_keeps stop form P (λ before at next rest held said. (keeps before at held).given (next, rest) said) made words y.0 y.1 holds is;
-}
-
--- What each element keeps, all elements keep.
-over_gives : {S X : Type 0} (P : S → Type 0) (step : S → X → Option S) → ((made : S) (x : X) → P made → Gives P (step made x)) → (made : S) (xs : List X) → P made → Gives P (over step made xs)
-over_gives P step keeps made xs holds = record {
-  given = λ y is. over_keeps step P (λ before x next held said. (keeps before x held).given next said) made xs y holds is;
-}
 
 -- the layer that statements are on, and those of the shapes, are layers of the library
 record IsDrawnOn (layers : ℕ) (drawn : Drawn) : Type 0 where
@@ -69,7 +47,11 @@ module _ (library : RawLibraryModel) where
       gives_bind (on_gives drawn.on is.on) (λ number within.
       gives_if (draws_metal library.layers number)
       (gives_skip (rect_in statement) (λ rect.
-      gives_some _ (record { on = is.on; shapes = All-push (λ shape. shape.layer < count) drawn.shapes (record { layer = number; rect = rect }) is.shapes within })))
+      gives_some _ (record {
+        on = is.on;
+        shapes = All-push (λ shape. shape.layer < count) drawn.shapes
+            (record { layer = number; rect = rect }) is.shapes within;
+      })))
       (gives_some drawn is))
 
   geometry_layer_gives : (statement : Words) → Gives (λ k. k < count) (layer_of_geometry library statement)
@@ -77,7 +59,7 @@ module _ (library : RawLibraryModel) where
   geometry_layer_gives statement =
       gives_skip (keyword_at (codes "LAYER") statement) (λ start.
       gives_skip (name_at start.1) (λ name.
-      gives_bind (within_gives (λ (l : RawLayer). l.name) name.0 library.layers) (λ number within.
+      gives_bind (named_gives_within (λ (l : RawLayer). l.name) name.0 library.layers) (λ number within.
       gives_if _ (gives_some number within) gives_none)))
 
   part_gives : (drawn : Drawn) (statement : Words) → IsDrawnOn count drawn → Gives (IsDrawnOn count) (geometry_part library drawn statement)
@@ -103,9 +85,10 @@ module _ (library : RawLibraryModel) where
       gives_skip (keyword_at (codes "LAYER") statement) (λ start.
       gives_skip (name_at start.1) (λ name.
       gives_skip (nothing_at name.1) (λ end.
-      within_gives (λ (l : RawLayer). l.name) name.0 library.layers)))
+      named_gives_within (λ (l : RawLayer). l.name) name.0 library.layers)))
 
-  via_part_gives : (parts : ViaParts) (statement : Words) → IsDrawnOn count parts.drawn → Gives (λ next. IsDrawnOn count next.drawn) (via_part library parts statement)
+  via_part_gives : (parts : ViaParts) (statement : Words) → IsDrawnOn count parts.drawn
+      → Gives (λ next. IsDrawnOn count next.drawn) (via_part library parts statement)
   unfolding via_part
   via_part_gives parts statement is =
       gives_if (spoils statement) (gives_some _ is)
@@ -122,10 +105,13 @@ module _ (library : RawLibraryModel) where
   kept_on true shapes on = on
   kept_on false shapes on = All-nil (λ (shape : RawShape). shape.layer < count)
 
-  good_is : (name : List ℕ) (parts : ViaParts) → is_good library name parts ≡ is_raw_good_via library.layers name (kept (is_good library name parts) parts.drawn.shapes)
+  good_is : (name : List ℕ) (parts : ViaParts)
+      → is_good library name parts ≡ is_raw_good_via library.layers name (kept (is_good library name parts) parts.drawn.shapes)
   unfolding is_raw_good_via
   good_is name parts = by parts.is_spoilt (is_wiring_word name) (join_layers (raw_uses library.layers) (raw_parts parts.drawn.shapes)) refl where
-    by : (spoilt word joins : Bool) → join_layers (raw_uses library.layers) (raw_parts parts.drawn.shapes) ≡ joins → (not spoilt && not word && joins) ≡ (not word && join_layers (raw_uses library.layers) (raw_parts (kept (not spoilt && not word && joins) parts.drawn.shapes)))
+    by : (spoilt word joins : Bool) → join_layers (raw_uses library.layers) (raw_parts parts.drawn.shapes) ≡ joins
+        → (not spoilt && not word && joins) ≡ (not word && join_layers (raw_uses library.layers)
+        (raw_parts (kept (not spoilt && not word && joins) parts.drawn.shapes)))
     by true true joins is = refl
     by true false joins is = refl
     by false true joins is = refl
@@ -150,7 +136,8 @@ module _ (library : RawLibraryModel) where
   via_refers words rest via said = (via_gives words).given (via, rest) said
 
   -- pins
-  pin_part_gives : (parts : PinParts) (words : Words) → AreRawShapesOn count parts.shapes → Gives (λ said. AreRawShapesOn count said.0.shapes) (pin_part library parts words)
+  pin_part_gives : (parts : PinParts) (words : Words) → AreRawShapesOn count parts.shapes
+      → Gives (λ said. AreRawShapesOn count said.0.shapes) (pin_part library parts words)
   unfolding pin_part port_at
   pin_part_gives parts words on =
       gives_if (is_at (codes "PORT") words)
@@ -166,7 +153,8 @@ module _ (library : RawLibraryModel) where
   pin_gives words =
       gives_skip (keyword_at (codes "PIN") words) (λ start.
       gives_bind (name_gives start.1) (λ name named.
-      gives_bind (until_gives (λ parts. AreRawShapesOn count parts.shapes) at_end (pin_part library) pin_part_gives no_pin_parts name.1 (All-nil (λ (shape : RawShape). shape.layer < count))) (λ parts is.
+      gives_bind (until_gives (λ parts. AreRawShapesOn count parts.shapes) at_end (pin_part library) pin_part_gives no_pin_parts name.1
+      (All-nil (λ (shape : RawShape). shape.layer < count))) (λ parts is.
       gives_skip (only (codes "USE") parts.0.statements) (λ found.
       gives_skip (supply_of_any found) (λ supply.
       gives_skip (end_of name.0 parts.1) (λ end.
@@ -229,7 +217,7 @@ module _ (library : RawLibraryModel) where
   site_gives (Some statement) =
       gives_bind {Q = λ k. k < length library.sites} (gives_skip (keyword_at (codes "SITE") statement) (λ start.
       gives_skip (name_at start.1) (λ name.
-      gives_bind (within_gives (λ (s : RawSite). s.name) name.0 library.sites) (λ number within.
+      gives_bind (named_gives_within (λ (s : RawSite). s.name) name.0 library.sites) (λ number within.
       gives_skip (nothing_at name.1) (λ end.
       gives_some number within))))) (λ k within. gives_some (Some k) within)
 
@@ -257,5 +245,6 @@ module _ (library : RawLibraryModel) where
       gives_some _ (record { site = within; pin_names = on.names; pins = on.pins; obstructions = on.obstructions }))))))
 
   -- A macro that is read has a site and layers of the library, and no two of its pins have one name.
-  pub macro_refers : (words rest : Words) (master : RawMasterModel) → macro_at library words ≡ Some (master, rest) → IsRawMasterOf library.layers library.sites master
+  pub macro_refers : (words rest : Words) (master : RawMasterModel) → macro_at library words ≡ Some (master, rest)
+      → IsRawMasterOf library.layers library.sites master
   macro_refers words rest master said = (macro_gives words).given (master, rest) said

@@ -65,13 +65,17 @@ with_via_below library words =
     (below_none (length words)))
 
 -- the loop over a via's statements
-pub parts_on : (library : RawLibraryModel) (before next : ViaParts) (statements : List Words) (i : ℕ) (x : Words) → i < length statements → x ≡ get_or statements i x → via_part library before x ≡ Some next → over (via_part library) before (drop i statements) ≡ over (via_part library) next (drop (i + 1) statements)
+pub parts_on : (library : RawLibraryModel) (before next : ViaParts) (statements : List Words) (i : ℕ) (x : Words) → i < length statements
+    → x ≡ get_or statements i x → via_part library before x ≡ Some next
+    → over (via_part library) before (drop i statements) ≡ over (via_part library) next (drop (i + 1) statements)
 parts_on library before next statements i x less is said =
     over_goes_on (via_part library) before next statements i x less is said
 
-pub parts_fail : (library : RawLibraryModel) (before : ViaParts) (statements : List Words) (i : ℕ) (x : Words) → i < length statements → x ≡ get_or statements i x → via_part library before x ≡ None → over (via_part library) before (drop i statements) ≡ None
+pub parts_fail : (library : RawLibraryModel) (before : ViaParts) (statements : List Words) (i : ℕ) (x : Words) → i < length statements
+    → x ≡ get_or statements i x → via_part library before x ≡ None → over (via_part library) before (drop i statements) ≡ None
 parts_fail library before statements i x less is said =
     over_fails (via_part library) before statements i x less is said
 
-pub parts_end : (library : RawLibraryModel) (before : ViaParts) (statements : List Words) (i : ℕ) → length statements ≤ i → over (via_part library) before (drop i statements) ≡ Some before
+pub parts_end : (library : RawLibraryModel) (before : ViaParts) (statements : List Words) (i : ℕ) → length statements ≤ i
+    → over (via_part library) before (drop i statements) ≡ Some before
 parts_end library before statements i past = over_ends (via_part library) before statements i past

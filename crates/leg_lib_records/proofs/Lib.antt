@@ -10,5 +10,6 @@ mod Sound
 mod SoundRaw
 -- Libraries that say the same
 mod Same
--- What other crates cite: names that are apart
+-- What other crates cite: names that are apart, and lists that stand one for one
 pub mod LibraryNames
+pub mod OneEach

@@ -1,6 +1,6 @@
 -- What the records of a library refer to is there when one more record is added, and in database units.
-use Rattle.std.proofs.Common.{◌≡◌, ℕ, ◌≤◌, ◌<◌, List, [], ◌∷◌, ◌++◌, length, length-append, map, get_or, All, IfSome, Option, None, Some, refl, sym, subst, ap, ◌∙◌, arith}
-use Rattle.std.proofs.lemmas.List.Elements.{All-nil, All-cons, All-head, All-tail}
+use Rattle.std.proofs.Common.{◌≡◌, ℕ, ◌≤◌, ◌<◌, List, [], ◌∷◌, ◌++◌, length, length-append, map, All, IfSome, Option, None, Some, refl, sym, subst, ap, ◌∙◌, arith}
+use Rattle.std.proofs.lemmas.List.Elements.{All-nil, All-cons, All-head, All-tail, All-weaker}
 use Rattle.leg_geom.specs.Plane.{PointModel}
 use Rattle.leg_lib_records.specs.declared.raw.RawLayer.{RawLayer}
 use Rattle.leg_lib_records.specs.declared.raw.RawSite.{RawSite}
@@ -14,12 +14,8 @@ use Rattle.leg_lib_records.specs.References.{AreRawShapesOn, AreShapesOn, IsRawV
 use Rattle.leg_lib_records.proofs.MoreLayers.{good_with_more}
 use Rattle.leg_lib_records.proofs.SameJoins.{good_at}
 
--- what holds of each element is weakened
-weaker : {X : Type 0} (P Q : X → Type 0) → ((x : X) → P x → Q x) → (xs : List X) → All P xs → All Q xs
-weaker P Q less xs all = λ k d within. less (get_or xs k d) (all k d within)
-
 on_more : (few many : ℕ) → few ≤ many → (shapes : List RawShape) → AreRawShapesOn few shapes → AreRawShapesOn many shapes
-on_more few many fewer shapes on = weaker (λ shape. shape.layer < few) (λ shape. shape.layer < many) (λ shape less. omega (arith, less)) shapes on
+on_more few many fewer shapes on = All-weaker (λ shape. shape.layer < few) (λ shape. shape.layer < many) (λ shape less. omega (arith, less)) shapes on
 
 via_with_layer : (layers : List RawLayer) (layer : RawLayer) (via : RawViaModel) → IsRawViaOf layers via → IsRawViaOf (layers ++ layer ∷ []) via
 via_with_layer layers layer via of = record {
@@ -36,7 +32,7 @@ master_with_more : (layers more : List RawLayer) (sites others : List RawSite) �
 master_with_more layers more sites others longer wider master of = record {
   site = site_within (length sites) (length others) wider master.site of.site;
   pin_names = of.pin_names;
-  pins = weaker (λ pin. AreRawShapesOn (length layers) pin.shapes) (λ pin. AreRawShapesOn (length more) pin.shapes)
+  pins = All-weaker (λ pin. AreRawShapesOn (length layers) pin.shapes) (λ pin. AreRawShapesOn (length more) pin.shapes)
       (λ pin on. on_more (length layers) (length more) longer pin.shapes on) master.pins of.pins;
   obstructions = on_more (length layers) (length more) longer master.obstructions of.obstructions;
 }
@@ -44,9 +40,9 @@ master_with_more layers more sites others longer wider master of = record {
 pub refers_with_layer : (library : RawLibraryModel) (layer : RawLayer) → HasRawReferences library
     → HasRawReferences (record library { layers = library.layers ++ layer ∷ [] })
 refers_with_layer library layer of = record {
-  vias = weaker (IsRawViaOf library.layers) (IsRawViaOf (library.layers ++ layer ∷ [])) (via_with_layer library.layers layer) library.vias of.vias;
+  vias = All-weaker (IsRawViaOf library.layers) (IsRawViaOf (library.layers ++ layer ∷ [])) (via_with_layer library.layers layer) library.vias of.vias;
   masters =
-      weaker (IsRawMasterOf library.layers library.sites) (IsRawMasterOf (library.layers ++ layer ∷ []) library.sites)
+      All-weaker (IsRawMasterOf library.layers library.sites) (IsRawMasterOf (library.layers ++ layer ∷ []) library.sites)
       (master_with_more library.layers (library.layers ++ layer ∷ []) library.sites library.sites (omega (arith, length-append library.layers (layer ∷ [])))
       (omega arith)) library.masters of.masters;
 }
@@ -56,7 +52,7 @@ pub refers_with_site : (library : RawLibraryModel) (site : RawSite) → HasRawRe
 refers_with_site library site of = record {
   vias = of.vias;
   masters =
-      weaker (IsRawMasterOf library.layers library.sites) (IsRawMasterOf library.layers (library.sites ++ site ∷ []))
+      All-weaker (IsRawMasterOf library.layers library.sites) (IsRawMasterOf library.layers (library.sites ++ site ∷ []))
       (master_with_more library.layers library.layers library.sites (library.sites ++ site ∷ []) (omega arith)
       (omega (arith, length-append library.sites (site ∷ [])))) library.masters of.masters;
 }

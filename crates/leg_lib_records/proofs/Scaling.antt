@@ -18,20 +18,15 @@ use Rattle.leg_lib_records.specs.declared.records.Shape.{Shape}
 use Rattle.leg_lib_records.specs.Measure.{ExtentModel}
 use Rattle.leg_lib_records.specs.Records.{RawViaModel, RawPinModel, RawMasterModel, RawLibraryModel, ViaModel, MasterPinModel, MasterModel, LibraryModel}
 use Rattle.leg_lib_records.specs.Scale.{IsLengthAt, IsSizeAt, IsSpotAt, IsRectAt, IsShapeAt, IsEven, IsKindAt, IsLayerAt, IsSiteAt, IsViaAt, IsPinAt, IsMasterAt, OneForOne, IsLibraryAt, no_shift}
+use Rattle.leg_lib_records.proofs.OneEach.{push_pair}
 
 module _ {X Y : Type 0} (R : X → Y → Type 0) where
-  push_pair : (xs : List X) (ys : List Y) (x : X) (y : Y) → OneForOne R xs ys → R x y → OneForOne R (xs ++ x ∷ []) (ys ++ y ∷ [])
-  push_pair [] [] x y before same = (same, tt)
-  push_pair [] (z ∷ ys) x y before same = absurd before
-  push_pair (w ∷ xs) [] x y before same = absurd before
-  push_pair (w ∷ xs) (z ∷ ys) x y before same = (before.0, push_pair xs ys x y before.1 same)
-
   -- one more element
   pub pair_more : (xs : List X) (ys : List Y) (i : ℕ) (x : X) (y : Y) → i < length xs → x ≡ get_or xs i x → OneForOne R (take i xs) ys → R x y
       → OneForOne R (take (i + 1) xs) (ys ++ y ∷ [])
   pair_more xs ys i x y less is before same =
       let more : take (i + 1) xs ≡ take i xs ++ x ∷ [] = take_more xs i x less ∙ ap (λ z. take i xs ++ z ∷ []) (sym is) in
-      rw more (push_pair (take i xs) ys x y before same)
+      rw more (push_pair R (take i xs) ys x y before same)
 
   -- no element is left
   pub pair_all : (xs : List X) (ys : List Y) (i : ℕ) → length xs ≤ i → OneForOne R (take i xs) ys → OneForOne R xs ys

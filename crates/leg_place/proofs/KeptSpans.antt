@@ -8,14 +8,15 @@ use Rattle.std.proofs.lemmas.List.Filters.{All-dedup}
 use Rattle.std.proofs.lemmas.List.Kept.{AllPairs-cons}
 use Rattle.std.proofs.lemmas.List.Sorted.{ranks_by, sorted_far, All-permutation, Contains-permutation}
 use Rattle.std.proofs.lemmas.Option.{same_Some, slice_get_within, get_or_from_slice_get}
-use Rattle.leg_sweep.proofs.Lists.{Contains-nil, Contains-here, Contains-there, Contains-cons_cases, AllPairs-nil, AllPairs-head, AllPairs-tail}
+use Rattle.leg_lemmas.proofs.Contained.{Contains-nil, Contains-here, Contains-there, Contains-cons_cases}
+use Rattle.leg_lemmas.proofs.Rising.{AllPairs-nil, AllPairs-head, AllPairs-tail}
+use Rattle.leg_lemmas.proofs.Places.{place_of_contained}
 use Rattle.leg_lib_records.specs.Records.{LibraryModel}
 use Rattle.leg_lib_records.specs.declared.records.Site.{Site}
 use Rattle.leg_design_records.specs.declared.records.Row.{Row}
 use Rattle.leg_place.specs.declared.site_span.SiteSpan.{SiteSpan}
 use Rattle.leg_place.specs.Steps.SiteSpan.{span_of, row_box, covers, begins_by}
 use Rattle.leg_place.specs.Steps.RowSpans.{IsRowSpan, IsOfSomeRow, AreSpansBelow, Precedes, IsCovered, AreRowSpans}
-use Rattle.leg_place.proofs.Places.{place_of_contained}
 use Rattle.leg_place.proofs.SpanOrder.{span_cmp, span_total, covers-itself, begins_from_sort, Precedes-itself, precedes_through}
 
 -- a span goes where the last one kept covers it
@@ -134,6 +135,6 @@ module _ (library : LibraryModel) (rows : List Row) where
         each = All-dedup goes (IsOfSomeRow library rows) sorted (All-permutation (IsOfSomeRow library rows) spans sorted moved are.each);
         all = λ row span has told.
             let at = place_of_contained rows row has in
-            serve.all span (Contains-permutation spans sorted span moved (are.all at.0 row span (slice_get_within rows at.0 row at.1) at.1 told));
+            serve.all span (Contains-permutation spans sorted span moved (are.all at.k row span (slice_get_within rows at.k row at.there) at.there told));
         in_order = serve.in_order;
       })

@@ -6,6 +6,7 @@ use Rattle.leg_geom.specs.Plane.{PointModel}
 use Rattle.leg_geom.specs.declared.orient.Orient.{Orient}
 use Rattle.leg_geom.specs.declared.orient.Orient.TheVariants.{N, S, W, E, FN, FS, FW, FE}
 use Rattle.leg_geom.specs.Orientation.{turned, both_edges, IsMirrored}
+use Rattle.leg_geom.proofs.Points.{same_point}
 use Rattle.leg_rules.specs.Placement.Sites.{Fits}
 use Rattle.leg_place.specs.Steps.SiteSpan.{orient_rank}
 
@@ -36,9 +37,6 @@ pub mirrored_once : (o a b : Orient) → IsMirrored o a → IsMirrored o b → a
 mirrored_once o a b is_a is_b =
     sym (orient_told a) ∙ ap orient_from (is_a (pos 4) (pos 2) point ∙ sym (is_b (pos 4) (pos 2) point)) ∙ orient_told b
 
-same_spot : (p q : PointModel) → p.x ≡ q.x → p.y ≡ q.y → p ≡ q
-same_spot p q x y = λ i. record { x = x i; y = y i }
-
 -- what is mirrored twice is as it was
 mirrored_back : (o m : Orient) → IsMirrored o m → IsMirrored m o
 mirrored_back o m is w h p =
@@ -47,7 +45,7 @@ mirrored_back o m is w h p =
     let high : (turned m w h (record { x = w; y = h })).x ≡ both_edges o w h -ℤ (turned o w h (record { x = w; y = h })).x =
     ap (λ s. s.x) (is w h (record { x = w; y = h })) in
     let here : (turned m w h p).x ≡ both_edges o w h -ℤ (turned o w h p).x = ap (λ s. s.x) (is w h p) in
-    same_spot (turned o w h p) (record { x = both_edges m w h -ℤ (turned m w h p).x; y = (turned m w h p).y }) (omega (arith, ints, low, high, here))
+    same_point (turned o w h p) (record { x = both_edges m w h -ℤ (turned m w h p).x; y = (turned m w h p).y }) (omega (arith, ints, low, high, here))
     (sym (ap (λ s. s.y) (is w h p)))
 
 -- the orientation of a rank

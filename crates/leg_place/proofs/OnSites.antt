@@ -3,8 +3,8 @@ use Rattle.std.proofs.Common.{◌≡◌, ℕ, ◌+◌, ◌-◌, ◌*◌, ◌/◌
 use Rattle.std.proofs.Math.IntN.{pos-*ℤ-pos}
 use Rattle.std.proofs.Math.Nat.{div-mul-le_self, lt-div-mul-add, mul-le-mul_right}
 use Rattle.std.proofs.lemmas.Bool.{cases_lt}
-use Rattle.std.proofs.lemmas.Grind.{common_steps}
 use Rattle.std.proofs.lemmas.Int.{ints}
+use Rattle.leg_lemmas.proofs.Naturals.{product_more}
 use Rattle.leg_geom.specs.Plane.{PointModel, RectModel, HasSquare}
 use Rattle.leg_lib_records.specs.Measure.{ExtentModel, HasArea}
 use Rattle.leg_design_records.specs.declared.records.Row.{Row}
@@ -26,14 +26,6 @@ pub record IsEdge (row : Row) (size : ExtentModel) (x : ℤ) : Type 0 where
   pub is : x ≡ row.at.x +ℤ pos k *ℤ size.width
   pub within : pos k ≤ℤ row.count
 
--- so many sites on, one more site ends
-product_more : (k n : ℕ) → (k + 1) * n ≡ k * n + n
-product_more k n = grind (arith, common_steps)
-
--- more sites reach no less far
-pub product_up : (j k n : ℕ) → j ≤ k → j * n ≤ k * n
-product_up j k n order = mul-le-mul_right n order
-
 -- the first of the sites with the number k lies at or before d, and the next one behind it, where k is d / n
 module _ (d n : ℕ) (some : 0 < n) where
   site_begins : d / n * n ≤ d
@@ -45,7 +37,7 @@ module _ (d n : ℕ) (some : 0 < n) where
   from_site : (f : ℕ) → f * n ≤ d → f ≤ d / n
   from_site f upto =
       elim (cases_lt (d / n) f) [
-        | inl low ↦ absurd (omega (arith, product_up (d / n + 1) f n (omega arith), product_more (d / n) n, site_ends, upto))
+        | inl low ↦ absurd (omega (arith, mul-le-mul_right {m = d / n + 1} {n = f} n (omega arith), product_more (d / n) n, site_ends, upto))
         | inr high ↦ high
       ]
 
@@ -53,7 +45,7 @@ module _ (d n : ℕ) (some : 0 < n) where
   below_site l below =
       elim (cases_lt (d / n) l) [
         | inl low ↦ low
-        | inr high ↦ absurd (omega (arith, product_up l (d / n) n high, site_begins, below))
+        | inr high ↦ absurd (omega (arith, mul-le-mul_right n high, site_begins, below))
       ]
 
 module _ (row : Row) (size : ExtentModel) (box : RectModel) (n : ℕ) (width : size.width ≡ pos n) (some : 0 < n) where
@@ -90,8 +82,8 @@ module _ (row : Row) (size : ExtentModel) (box : RectModel) (n : ℕ) (width : s
         let inside_right = rw (edge_is (s.k + 1)) at s.inside.right in
         let last : s.k + 1 ≤ l = omega (arith, s.below, order) in
         record {
-          left = omega (arith, ints, inside_left, left, product_up f s.k n s.from);
-          right = omega (arith, ints, inside_right, right, product_up (s.k + 1) l n last);
+          left = omega (arith, ints, inside_left, left, mul-le-mul_right n s.from);
+          right = omega (arith, ints, inside_right, right, mul-le-mul_right n last);
           bottom = omega (arith, ints, s.inside.bottom, bottom);
           top = omega (arith, ints, s.inside.top, top);
         }
@@ -161,14 +153,14 @@ module _ (row : Row) (size : ExtentModel) (box : RectModel) (n : ℕ) (width : s
     left_is =
         let s = in_sites in
         let inside = rw (edge_is s.k) at s.inside.left in
-        omega (arith, ints, inside, product_up on.first s.k n s.from, first_square.left)
+        omega (arith, ints, inside, mul-le-mul_right n s.from, first_square.left)
 
     right_is : (l : ℕ) → on.first + on.many ≡ l + 1 → box.x2 ≡ row.at.x +ℤ pos ((l + 1) * n)
     right_is l is =
         let s = last_in_sites in
         let inside = rw (edge_is (s.k + 1)) at s.inside.right in
         let last : s.k + 1 ≤ l + 1 = omega (arith, s.below, is) in
-        omega (arith, ints, inside, product_up (s.k + 1) (l + 1) n last, product_more l n, (last_square l is).right)
+        omega (arith, ints, inside, mul-le-mul_right n last, product_more l n, (last_square l is).right)
 
     pub left_edge : IsEdge row size box.x1
     left_edge =
@@ -224,7 +216,7 @@ module _ (row : Row) (size : ExtentModel) (box : RectModel) (area : HasArea size
       let order : left.k < right.k =
       elim (cases_lt left.k right.k) [
         | inl low ↦ low
-        | inr high ↦ absurd (omega (arith, ints, left_at, right_at, proper.wide, product_up right.k left.k n high))
+        | inr high ↦ absurd (omega (arith, ints, left_at, right_at, proper.wide, mul-le-mul_right n high))
       ] in
       sites_between row size box n width some left.k right.k left_at right_at level.bottom level.top order right.within
 

@@ -4,11 +4,13 @@ use Rattle.std.proofs.lemmas.Bool.{cases_lt, cases_eq}
 use Rattle.std.proofs.lemmas.List.{take_more, map-append, append_assoc}
 use Rattle.std.proofs.lemmas.List.Elements.{All-append, All-map, All-weaker, Contains-append_left, Contains-append_right}
 use Rattle.std.proofs.lemmas.Option.{same_Some, slice_get_within, slice_get-get_or, get_or_from_slice_get}
+use Rattle.leg_lemmas.proofs.Places.{all_at, place_of_contained}
+use Rattle.leg_lemmas.proofs.Contained.{Contains-nil, Contains-map}
+use Rattle.leg_lemmas.proofs.Rising.{AllPairs-append_by, AllPairs-map_where}
 use Rattle.leg_geom.specs.Plane.{ShareSquare}
 use Rattle.leg_sweep.specs.Pairs.{Before, ArePairs, TakesAll, TookPairs}
 use Rattle.leg_geom.specs.Pairs.{IsPair}
 use Rattle.leg_sweep.specs.Pairs.TakesAll.{none, more}
-use Rattle.leg_sweep.proofs.Lists.{AllPairs-append_by, AllPairs-map_where, Contains-map, Contains-nil}
 use Rattle.leg_design_records.specs.Records.{DesignModel}
 use Rattle.leg_design_records.specs.declared.fault.Fault.{Fault}
 use Rattle.leg_design_records.specs.declared.fault.Fault.TheVariants.{Overlap}
@@ -21,7 +23,7 @@ use Rattle.leg_rules.specs.Placement.Violations.IsPlacementViolation.{overlap}
 use Rattle.leg_place.specs.Steps.ListPrefix.{IsViolationBefore, IsListBefore, AreBoxesBelow, HasLowerNumber, DoSomeOverlap, HasPair}
 use Rattle.leg_place.proofs.PlaceFaults.{overlap_there, marked_by_all}
 use Rattle.leg_place.proofs.ComponentFaults.{overlap_kind, is_overlap}
-use Rattle.leg_place.proofs.Places.{place_of_contained, All-at, AllPairs-at, lower_first, same_place}
+use Rattle.leg_place.proofs.Places.{AllPairs-at, lower_first, same_place}
 
 -- two boxes share a unit square
 abbrev pub Share : PlacedBox → PlacedBox → Type 0
@@ -62,13 +64,13 @@ module _ (design : DesignModel) (marks : List Bool) (n : ℕ) (boxes : List Plac
           in_order = AllPairs-at HasLowerNumber boxes p.0 p.1 pair.a pair.b are.increasing pair.a_at pair.b_at pair.in_order;
           box_a = pair.a.rect;
           box_b = pair.b.rect;
-          stands_a = All-at (λ box. HasBox design box.component box.rect) boxes p.0 pair.a are.each pair.a_at;
-          stands_b = All-at (λ box. HasBox design box.component box.rect) boxes p.1 pair.b are.each pair.b_at;
+          stands_a = all_at (λ box. HasBox design box.component box.rect) boxes p.0 pair.a are.each pair.a_at;
+          stands_b = all_at (λ box. HasBox design box.component box.rect) boxes p.1 pair.b are.each pair.b_at;
           shared = pair.holds;
         });
         marked = (
-          All-at (λ box. IsMarked marks box.component) boxes p.0 pair.a are.marked pair.a_at,
-          All-at (λ box. IsMarked marks box.component) boxes p.1 pair.b are.marked pair.b_at,
+          all_at (λ box. IsMarked marks box.component) boxes p.0 pair.a are.marked pair.a_at,
+          all_at (λ box. IsMarked marks box.component) boxes p.1 pair.b are.marked pair.b_at,
         );
       })
 
@@ -95,16 +97,16 @@ module _ (design : DesignModel) (marks : List Bool) (n : ℕ) (boxes : List Plac
   overlap_from_pair found pairs a b holds a_below b_below a_marked b_marked =
       let first = place_of_contained boxes (record { component = a; rect = holds.box_a }) (are.all a holds.box_a a_below a_marked holds.stands_a) in
       let second = place_of_contained boxes (record { component = b; rect = holds.box_b }) (are.all b holds.box_b b_below b_marked holds.stands_b) in
-      let pair : IsPair Share boxes (first.0, second.0) = record {
+      let pair : IsPair Share boxes (first.k, second.k) = record {
         a = record { component = a; rect = holds.box_a };
         b = record { component = b; rect = holds.box_b };
-        a_at = first.1;
-        b_at = second.1;
-        in_order = lower_first (λ box. box.component) boxes are.increasing first.0 second.0 _ _ first.1 second.1 holds.in_order;
+        a_at = first.there;
+        b_at = second.there;
+        in_order = lower_first (λ box. box.component) boxes are.increasing first.k second.k _ _ first.there second.there holds.in_order;
         holds = holds.shared;
       } in
-      let has = Contains-map (overlap_of boxes) found (first.0, second.0) (pairs.all (first.0, second.0) pair) in
-      rw (first.1, second.1) at has
+      let has = Contains-map (overlap_of boxes) found (first.k, second.k) (pairs.all (first.k, second.k) pair) in
+      rw (first.there, second.there) at has
 
 -- overlaps behind the violations of the kinds before
 module _ (design : DesignModel) (marks : List Bool) (found : List Fault) (before : IsListBefore design marks overlap_kind 0 found) (boxes : List PlacedBox)
@@ -206,12 +208,12 @@ module _ (design : DesignModel) (boxes : List PlacedBox)
       let second =
       place_of_contained boxes (record { component = some.b; rect = h.box_b })
       (are.all some.b h.box_b b_below (marked_by_all design some.b b_below) h.stands_b) in
-      let pair : IsPair Share boxes (first.0, second.0) = record {
+      let pair : IsPair Share boxes (first.k, second.k) = record {
         a = record { component = some.a; rect = h.box_a };
         b = record { component = some.b; rect = h.box_b };
-        a_at = first.1;
-        b_at = second.1;
-        in_order = lower_first (λ box. box.component) boxes are.increasing first.0 second.0 _ _ first.1 second.1 h.in_order;
+        a_at = first.there;
+        b_at = second.there;
+        in_order = lower_first (λ box. box.component) boxes are.increasing first.k second.k _ _ first.there second.there h.in_order;
         holds = h.shared;
       } in
-      took_none took.found before after took.taken (first.0, second.0) (took.are.all (first.0, second.0) pair)
+      took_none took.found before after took.taken (first.k, second.k) (took.are.all (first.k, second.k) pair)

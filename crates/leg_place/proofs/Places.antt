@@ -1,16 +1,9 @@
 -- Elements of lists by their places.
-use Rattle.std.proofs.Common.{◌≡◌, ℕ, ◌<◌, List, Some, slice_get, All, AllPairs, Contains, get_or, refl, sym, ap, ◌∙◌, inl, inr, arith}
+use Rattle.std.proofs.Common.{◌≡◌, ℕ, ◌<◌, List, Some, slice_get, AllPairs, get_or, sym, ap, ◌∙◌, inl, inr, arith}
 use Rattle.std.proofs.lemmas.Bool.{cases_lt, cases_eq}
-use Rattle.std.proofs.lemmas.Option.{slice_get_within, slice_get_read, get_or_from_slice_get, same_Some}
+use Rattle.std.proofs.lemmas.Option.{slice_get_within, get_or_from_slice_get, same_Some}
 
 module _ {X : Type 0} where
-  -- what a list contains stands at a place
-  pub place_of_contained : (xs : List X) (x : X) → Contains xs x → (i : ℕ) × (slice_get xs i ≡ Some x)
-  place_of_contained xs x c = (c.0, slice_get_read xs _ c.0 x refl c.1 (sym c.2))
-
-  pub All-at : (P : X → Type 0) (xs : List X) (i : ℕ) (x : X) → All P xs → slice_get xs i ≡ Some x → P x
-  All-at P xs i x each at = let is : get_or xs i x ≡ x = get_or_from_slice_get xs i x x at in rw is at (each i x (slice_get_within xs i x at))
-
   pub AllPairs-at : (R : X → X → Type 0) (xs : List X) (i j : ℕ) (x y : X) → AllPairs R xs → slice_get xs i ≡ Some x → slice_get xs j ≡ Some y → i < j → R x y
   AllPairs-at R xs i j x y rise x_at y_at below =
       let x_is : get_or xs i x ≡ x = get_or_from_slice_get xs i x x x_at in

@@ -2,7 +2,7 @@
 use Rattle.std.proofs.Common.{◌≡◌, ◌↔◌, ℕ, ◌+◌, ◌-◌, ◌*◌, ◌/◌, ◌%◌, ◌<◌, ◌≤◌, IsTrue, ℤ, pos, ◌+ℤ◌, ◌-ℤ◌, ◌*ℤ◌, ◌≤ℤ◌, unsigned_abs, FitsSigned, w64, inl, inr, refl, sym, ap, ◌∙◌, arith}
 use Rattle.std.proofs.Math.IntN.{pos-*ℤ-pos}
 use Rattle.std.proofs.lemmas.Bool.{cases_lt}
-use Rattle.std.proofs.Math.Nat.{mul-pos, mul-mod_left}
+use Rattle.std.proofs.Math.Nat.{mul-pos, mul-mod_left, mul-le-mul_right}
 use Rattle.std.proofs.lemmas.Nat.{div-add-mod'}
 use Rattle.std.proofs.lemmas.Int.{ints, fits_signed_from_abs}
 use Rattle.leg_lex.specs.Number.{IsNumber}
@@ -15,7 +15,7 @@ use Rattle.leg_rules.specs.Placement.Sites.{IsOnSites}
 use Rattle.leg_place.specs.Steps.SiteSpan.{span_of, row_box, covers}
 use Rattle.leg_place.specs.Steps.RowSpans.{IsWhole}
 use Rattle.leg_place.proofs.Mirrors.{same_rank}
-use Rattle.leg_place.proofs.OnSites.{IsWide, IsLevel, IsEdge, product_up, on_sites_from_edges, level_from_on_sites, left_from_on_sites, right_from_on_sites}
+use Rattle.leg_place.proofs.OnSites.{IsWide, IsLevel, IsEdge, on_sites_from_edges, level_from_on_sites, left_from_on_sites, right_from_on_sites}
 use Rattle.leg_place.proofs.Shift.{product_sum, same_shift, steps_between}
 use Rattle.leg_place.proofs.SpanOrder.{Reaches, same_parts, reaches_from_covers, covers_from_reaches}
 
@@ -39,9 +39,6 @@ whole_test size box d n area proper apart is_width high =
 -- what lies between two numbers fits
 pub between_fits : (x p : ℤ) → IsNumber x → IsNumber (x +ℤ p) → FitsSigned w64 p
 between_fits x p one other = fits_signed_from_abs w64 p (omega (arith, ints, one, other))
-
-pub number_fits : (x : ℤ) → IsNumber x → FitsSigned w64 x
-number_fits x one = fits_signed_from_abs w64 x (omega (arith, one))
 
 pub sum_fits : (x y : ℤ) → IsNumber x → IsNumber y → FitsSigned w64 (x +ℤ y)
 sum_fits x y one other = fits_signed_from_abs w64 (x +ℤ y) (omega (arith, ints, one, other))
@@ -84,7 +81,7 @@ module _ (row : Row) (size : ExtentModel) (box : RectModel) (n : ℕ) (width : s
     edges_apart =
         elim (cases_lt left.k right.k) [
           | inl below ↦ below
-          | inr above ↦ absurd (omega (arith, ints, left_at, right_at, proper.wide, product_up right.k left.k n above))
+          | inr above ↦ absurd (omega (arith, ints, left_at, right_at, proper.wide, mul-le-mul_right n above))
         ]
 
     whole_between : IsWhole size box
@@ -107,7 +104,7 @@ module _ (row : Row) (size : ExtentModel) (box : RectModel) (n : ℕ) (width : s
         covers_from_reaches (span_of row.site size row.orient (row_box row size)) (span_of row.site size row.orient box) (record {
           line = same_parts _ _ refl refl (sym level.bottom) (same_shift size.width n some width row.at.x box.x1 left.k left_at);
           left = omega (arith, ints, left_at);
-          right = omega (arith, ints, right_at, all, product_up right.k m n few);
+          right = omega (arith, ints, right_at, all, mul-le-mul_right n few);
         })
 
   -- and the other way round: the row has the sites over which a whole box reaches
@@ -137,7 +134,8 @@ module _ (row : Row) (size : ExtentModel) (box : RectModel) (n : ℕ) (width : s
         let all : row.count *ℤ size.width ≡ pos (m * n) = ap (λ c. c *ℤ size.width) count ∙ sites_long m in
         let reached : (whole.many + steps.0) * n ≤ m * n = omega (arith, ints, reach.right, right_end, all) in
         elim (cases_lt m (whole.many + steps.0)) [
-          | inl beyond ↦ absurd (omega (arith, product_up (m + 1) (whole.many + steps.0) n (omega (arith, beyond)), product_sum m 1 n, reached, some))
+          | inl beyond ↦
+              absurd (omega (arith, mul-le-mul_right {m = m + 1} {n = whole.many + steps.0} n (omega (arith, beyond)), product_sum m 1 n, reached, some))
           | inr within ↦ omega (arith, ints, count, within)
         ]
 

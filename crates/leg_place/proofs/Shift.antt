@@ -1,12 +1,11 @@
 -- Numbers that lie a whole number of steps apart leave the same remainder, and the other way round.
 use Rattle.std.proofs.Common.{◌≡◌, ℕ, ◌+◌, ◌-◌, ◌*◌, ◌/◌, ◌%◌, ◌<◌, ◌≤◌, ℤ, pos, ◌+ℤ◌, ◌≤ℤ◌, unsigned_abs, inl, inr, sym, ap, ◌∙◌, arith}
 use Rattle.std.specs.Int.{int_rem_euclid}
-use Rattle.std.proofs.Math.Nat.{add-mul-mod_self_right, le-mul_of_pos_right}
+use Rattle.std.proofs.Math.Nat.{add-mul-mod_self_right, le-mul_of_pos_right, mul-le-mul_right}
 use Rattle.std.proofs.lemmas.Nat.{div-add-mod'}
 use Rattle.std.proofs.lemmas.Bool.{cases_lt}
 use Rattle.std.proofs.lemmas.Grind.{common_steps}
 use Rattle.std.proofs.lemmas.Int.{ints, int_rem_euclid_is}
-use Rattle.leg_place.proofs.OnSites.{product_up}
 
 pub product_sum : (k j n : ℕ) → (k + j) * n ≡ k * n + j * n
 product_sum k j n = grind (arith, common_steps)
@@ -15,7 +14,7 @@ product_sum k j n = grind (arith, common_steps)
 quotients : (a b n : ℕ) → a % n ≡ b % n → a / n * n + a % n ≡ a → b / n * n + b % n ≡ b → a ≤ b → (k : ℕ) × (b ≡ a + k * n)
 quotients a b n left a_is b_is below =
     elim (cases_lt (b / n) (a / n)) [
-      | inl down ↦ (0, omega (arith, product_up (b / n) (a / n) n (omega (arith, down)), left, a_is, b_is, below))
+      | inl down ↦ (0, omega (arith, mul-le-mul_right {m = b / n} {n = a / n} n (omega (arith, down)), left, a_is, b_is, below))
       | inr up ↦
           let k = a / n in
           let sum : (b / n - a / n) + k ≡ b / n = omega (arith, up) in

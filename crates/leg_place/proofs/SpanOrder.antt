@@ -1,11 +1,11 @@
 -- The order of spans of sites, and which of them have all sites of another one.
 use Rattle.std.proofs.Common.{◌≡◌, ℕ, true, false, IsTrue, ℤ, ◌≤ℤ◌, ◌<ℤ◌, Ordering, Less, Equal, Greater, refl, sym, ap, ◌∙◌, arith}
-use Rattle.std.specs.Prelude.{int_le}
 use Rattle.std.specs.Ordering.{is_eq, is_lt, is_gt, is_le, ordering_reverse, ordering_then, nat_cmp, int_cmp, int_eq}
 use Rattle.std.specs.Cmp.{IsTotalOrder}
 use Rattle.std.proofs.lemmas.Bool.{true≢false, false≢true, and_parts, and_from, eqb-true, eq-eqb}
 use Rattle.std.proofs.lemmas.Cmp.{upto, tied_itself, ranked, int_ranked, nat_cmp_total, int_cmp_total, on_total, then_total}
 use Rattle.std.proofs.lemmas.Int.{ints, by_lt_z}
+use Rattle.leg_lemmas.proofs.Integers.{le_test, le_from_test, eq_from_test}
 use Rattle.leg_place.specs.declared.site_span.SiteLine.{SiteLine}
 use Rattle.leg_place.specs.declared.site_span.SiteSpan.{SiteSpan}
 use Rattle.leg_place.specs.Steps.SiteSpan.{is_same_line, covers, line_cmp, begins_by}
@@ -83,22 +83,8 @@ nat_tied m n e = ranked m n Equal (sym e)
 int_tied : (x y : ℤ) → int_cmp x y ≡ Equal → x ≡ y
 int_tied x y e = int_ranked x y Equal (sym e)
 
-equal_from_test : (o : Ordering) → is_eq o ≡ true → o ≡ Equal
-equal_from_test Less t = absurd (false≢true t)
-equal_from_test Equal t = refl
-equal_from_test Greater t = absurd (false≢true t)
-
-int_eq-true : (x y : ℤ) → int_eq x y ≡ true → x ≡ y
-int_eq-true x y t = int_tied x y (equal_from_test (int_cmp x y) t)
-
 int_eq-same : (x y : ℤ) → x ≡ y → int_eq x y ≡ true
 int_eq-same x y e = ap is_eq (ap (int_cmp x) (sym e) ∙ tied_itself int_cmp_total x)
-
-upto_from_test : (a b : ℤ) → int_le a b ≡ true → a ≤ℤ b
-upto_from_test a b test = grind (arith, ints)
-
-upto_test : (a b : ℤ) → a ≤ℤ b → int_le a b ≡ true
-upto_test a b upto = grind (arith, ints)
 
 upto_from_answer : (a b : ℤ) → is_le (int_cmp a b) ≡ true → a ≤ℤ b
 upto_from_answer a b test = grind (arith, ints)
@@ -115,8 +101,8 @@ same_line a b test =
     let site = and_parts _ _ test in
     let orient = and_parts _ _ site.1 in
     let rest = and_parts _ _ orient.1 in
-    same_parts a b (eqb-true a.site b.site site.0) (eqb-true a.orient b.orient orient.0) (int_eq-true a.bottom b.bottom rest.0)
-    (int_eq-true a.shift b.shift rest.1)
+    same_parts a b (eqb-true a.site b.site site.0) (eqb-true a.orient b.orient orient.0) (eq_from_test a.bottom b.bottom rest.0)
+    (eq_from_test a.shift b.shift rest.1)
 
 same_line_test : (a b : SiteLine) → a ≡ b → is_same_line a b ≡ true
 same_line_test a b same =
@@ -141,11 +127,11 @@ pub reaches_from_covers : (a b : SiteSpan) → IsTrue (covers a b) → Reaches a
 reaches_from_covers a b test =
     let right = and_parts _ _ test in
     let left = and_parts _ _ right.0 in
-    record { line = same_line a.line b.line left.0; left = upto_from_test a.left b.left left.1; right = upto_from_test b.right a.right right.1 }
+    record { line = same_line a.line b.line left.0; left = le_from_test a.left b.left left.1; right = le_from_test b.right a.right right.1 }
 
 pub covers_from_reaches : (a b : SiteSpan) → Reaches a b → IsTrue (covers a b)
 covers_from_reaches a b r =
-    and_from _ _ (and_from _ _ (same_line_test a.line b.line r.line) (upto_test a.left b.left r.left)) (upto_test b.right a.right r.right)
+    and_from _ _ (and_from _ _ (same_line_test a.line b.line r.line) (le_test a.left b.left r.left)) (le_test b.right a.right r.right)
 
 pub covers-itself : (a : SiteSpan) → IsTrue (covers a a)
 covers-itself a = covers_from_reaches a a (record { line = refl; left = omega (arith, ints); right = omega (arith, ints) })

@@ -1,13 +1,14 @@
 -- Texts that begin with white space, and their words.
-use Rattle.std.proofs.Common.{◌≡◌, ℕ, ◌+◌, ◌-◌, Bool, true, false, not, ◌&&◌, ◌==◌, nat_lt, if◌then◌else◌, MatchBool, List, [], ◌∷◌, ◌++◌, length, slice_index, count_by, refl, sym, ap, ◌∙◌, subst, arith}
+use Rattle.std.proofs.Common.{◌≡◌, ℕ, ◌+◌, ◌-◌, Bool, true, false, ◌&&◌, ◌==◌, nat_lt, List, [], ◌∷◌, ◌++◌, length, slice_index, count_by, refl, sym, ap, ◌∙◌, subst, arith}
 use Rattle.std.specs.List.{list_any, list_all}
-use Rattle.std.proofs.lemmas.Bool.{eqb-true, false≢true}
+use Rattle.std.proofs.lemmas.Bool.{false≢true, and_parts}
 use Rattle.std.proofs.lemmas.Bool.Decides.{nat_tests}
-use Rattle.std.proofs.lemmas.List.{append_assoc, map-append, nil_from_length}
+use Rattle.std.proofs.lemmas.List.{append_assoc, map-append}
 use Rattle.leg_lex.specs.Word.{texts}
-use Rattle.leg_lex.specs.Cut.{Kind, White, Comment, Quoted, Plain, kind_of, Closes, Ends, RunsTo, IsPiece, CutTo, is_white, is_line_feed}
+use Rattle.leg_lex.specs.Cut.{White, Quoted, Plain, kind_of, Ends, RunsTo, IsPiece, CutTo, is_white, is_line_feed}
 use Rattle.leg_lex.specs.Tokens.{plain_words, words_in, words_from}
 use Rattle.leg_lex.specs.Words.{Words, is_plain_kind, closes, is_closed}
+use Rattle.leg_lex.proofs.PieceKinds.{quoted_here, closes_surely, plain_here}
 use Rattle.leg_output.specs.Words.{spaced, stays_one, is_printable}
 
 -- the text is over, or goes on with white space
@@ -28,14 +29,6 @@ pub record Behind (text : List ℕ) (words : Words) : Type 0 where
   pub said : (n : ℕ) → texts (words_from n pieces) ≡ words
 
 -- A plain word goes on to the white space after it.
-plain_here : (b : ℕ) → is_plain_kind (kind_of b) ≡ true → kind_of b ≡ Plain
-plain_here b test = by (kind_of b) test where
-  by : (kind : Kind) → is_plain_kind kind ≡ true → kind ≡ Plain
-  by White test = cc
-  by Comment test = cc
-  by Quoted test = cc
-  by Plain test = refl
-
 runs_to_gap : (bytes rest : List ℕ) → list_any is_white bytes ≡ false → IsGap rest → RunsTo is_white bytes rest
 runs_to_gap [] [] none gap = tt
 runs_to_gap [] (b ∷ rest) none gap = gap
@@ -50,21 +43,12 @@ plain_is_one b bytes is none stays =
       piece = λ rest gap. subst (λ k. Ends k b bytes rest) (sym kind) (runs_to_gap bytes rest none gap);
       said = λ n. rw kind (by n (nat_lt 0 (length (b ∷ bytes) - 1) && slice_index (b ∷ bytes) (length (b ∷ bytes) - 1) == 59) refl);
     } where
-      by : (n : ℕ) (two : Bool) → (nat_lt 0 (length (b ∷ bytes) - 1) && slice_index (b ∷ bytes) (length (b ∷ bytes) - 1) == 59) ≡ two → plain_words n (b ∷ bytes) ≡ record { text = b ∷ bytes; line = n } ∷ []
+      by : (n : ℕ) (two : Bool) → (nat_lt 0 (length (b ∷ bytes) - 1) && slice_index (b ∷ bytes) (length (b ∷ bytes) - 1) == 59) ≡ two
+          → plain_words n (b ∷ bytes) ≡ record { text = b ∷ bytes; line = n } ∷ []
       by n true is = absurd (let e : ⊥ = cc (rw is at stays) in e)
       by n false is = rw is refl
 
 -- A quoted word ends at its closing quote.
-closes_surely : (before : ℕ) (bytes : List ℕ) → closes before bytes ≡ true → Closes before bytes
-closes_surely before [] test = cc
-closes_surely before (b ∷ bytes) test = by (b == 34 && not (before == 92)) bytes (closes_surely b bytes) test where
-  by : (end : Bool) (bytes : List ℕ) → (closes b bytes ≡ true → Closes b bytes) → (if end then length bytes == 0 else closes b bytes) ≡ true → MatchBool end (bytes ≡ []) (Closes b bytes)
-  by true bytes later test = nil_from_length bytes (eqb-true _ _ test)
-  by false bytes later test = later test
-
-quoted_here : (b : ℕ) → b ≡ 34 → kind_of b ≡ Quoted
-quoted_here b e = rw e refl
-
 closed_is_one : (b : ℕ) (bytes : List ℕ) → b ≡ 34 → closes b bytes ≡ true → IsOne (b ∷ bytes)
 closed_is_one b bytes quote ends =
     let kind : kind_of b ≡ Quoted = quoted_here b quote in record {
@@ -89,12 +73,14 @@ printable_is_one (b ∷ bytes) test = by (is_plain_kind (kind_of b)) (list_any i
   by false white stays is none one = closed (rw is at test)
 
 -- Pieces of one text and then those of the next.
-pub cut_append : (pieces more : List (List ℕ)) (text middle rest : List ℕ) → CutTo middle pieces text → CutTo rest more middle → CutTo rest (pieces ++ more) text
+pub cut_append : (pieces more : List (List ℕ)) (text middle rest : List ℕ) → CutTo middle pieces text → CutTo rest more middle
+    → CutTo rest (pieces ++ more) text
 cut_append [] more text middle rest here next = subst (CutTo rest more) (sym here) next
 cut_append (piece ∷ pieces) more text middle rest (after, here, is_piece, cut) next =
     (after, here, is_piece, cut_append pieces more after middle rest cut next)
 
-pub said_append : (n : ℕ) (pieces more : List (List ℕ)) (words : Words) → ((m : ℕ) → texts (words_from m more) ≡ words) → texts (words_from n (pieces ++ more)) ≡ texts (words_from n pieces) ++ words
+pub said_append : (n : ℕ) (pieces more : List (List ℕ)) (words : Words) → ((m : ℕ) → texts (words_from m more) ≡ words)
+    → texts (words_from n (pieces ++ more)) ≡ texts (words_from n pieces) ++ words
 said_append n [] more words said = said n
 said_append n (piece ∷ pieces) more words said =
     let m = n + count_by is_line_feed piece in
@@ -136,19 +122,14 @@ behind_word word one = record {
 
 -- a list's tests, at its first element and at the others
 pub first_passes : {X : Type 0} (test : X → Bool) (x : X) (xs : List X) → list_all test (x ∷ xs) ≡ true → test x ≡ true
-first_passes test x xs all = by (test x) (list_all test xs) all where
-  by : (first later : Bool) → (first && later) ≡ true → first ≡ true
-  by true later both = refl
-  by false later both = both
+first_passes test x xs all = (and_parts (test x) (list_all test xs) all).0
 
 pub others_pass : {X : Type 0} (test : X → Bool) (x : X) (xs : List X) → list_all test (x ∷ xs) ≡ true → list_all test xs ≡ true
-others_pass test x xs all = by (test x) (list_all test xs) all where
-  by : (first later : Bool) → (first && later) ≡ true → later ≡ true
-  by true later both = both
-  by false later both = absurd (false≢true both)
+others_pass test x xs all = (and_parts (test x) (list_all test xs) all).1
 
 -- words, each behind a blank
 pub behind_spaced : (words : Words) → list_all is_printable words ≡ true → Behind (spaced words) words
 behind_spaced [] all = behind_nil
 behind_spaced (word ∷ words) all =
-    behind_append (behind_word word (printable_is_one word (first_passes is_printable word words all))) (behind_spaced words (others_pass is_printable word words all))
+    behind_append (behind_word word (printable_is_one word (first_passes is_printable word words all)))
+    (behind_spaced words (others_pass is_printable word words all))

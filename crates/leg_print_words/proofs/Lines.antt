@@ -40,7 +40,8 @@ lines_line {text} {words} word one behind = record {
     cut_append behind.pieces ((10 ∷ []) ∷ []) (text ++ 10 ∷ rest) (10 ∷ rest) rest (behind.cut (10 ∷ rest) refl) (rest, refl, refl, refl),
   );
   said = λ n. rw one.said (ap (λ v. word ∷ v)
-      (said_append (n + count_by is_line_feed word) behind.pieces ((10 ∷ []) ∷ []) [] (λ m. refl) ∙ append-nil _ ∙ behind.said (n + count_by is_line_feed word)));
+      (said_append (n + count_by is_line_feed word) behind.pieces ((10 ∷ []) ∷ []) [] (λ m. refl) ∙ append-nil _
+      ∙ behind.said (n + count_by is_line_feed word)));
 }
 
 -- the same with a semicolon behind a blank before the line feed
@@ -65,7 +66,8 @@ further_lines (words ∷ lines) all = by (further_lines lines) (list_all is_prin
   by later false others first rest = absurd (false≢true (rw (list_all-append is_printable words (words_in_lines lines), first) at all))
 
 -- the texts of a list's elements, one after the other
-pub lines_each : {X : Type 0} (text : X → List ℕ) (words : X → Words) (xs : List X) → All (λ x. Lines (text x) (words x)) xs → Lines (flat_map text xs) (flat_map words xs)
+pub lines_each : {X : Type 0} (text : X → List ℕ) (words : X → Words) (xs : List X) → All (λ x. Lines (text x) (words x)) xs
+    → Lines (flat_map text xs) (flat_map words xs)
 lines_each text words [] each = lines_nil
 lines_each text words (x ∷ xs) each =
     lines_append (All-head (λ x. Lines (text x) (words x)) x xs each) (lines_each text words xs (All-tail (λ x. Lines (text x) (words x)) x xs each))
@@ -80,7 +82,8 @@ lines_of_words (word ∷ words) all =
 pub printable_lines : (lines : List Words) → list_all is_printable (words_in_lines lines) ≡ true → Lines (text_of lines) (words_in_lines lines)
 printable_lines [] all = lines_nil
 printable_lines (words ∷ lines) all = by (printable_lines lines) (list_all is_printable words) (list_all is_printable (words_in_lines lines)) refl refl where
-  by : (list_all is_printable (words_in_lines lines) ≡ true → Lines (text_of lines) (words_in_lines lines)) → (here others : Bool) → list_all is_printable words ≡ here → list_all is_printable (words_in_lines lines) ≡ others
+  by : (list_all is_printable (words_in_lines lines) ≡ true → Lines (text_of lines) (words_in_lines lines)) → (here others : Bool)
+      → list_all is_printable words ≡ here → list_all is_printable (words_in_lines lines) ≡ others
       → Lines (text_of (words ∷ lines)) (words_in_lines (words ∷ lines))
   by later true true first rest = lines_append (lines_of_words words first) (later rest)
   by later true false first rest = absurd (false≢true (rw (list_all-append is_printable words (words_in_lines lines), first, rest) at all))
@@ -94,6 +97,7 @@ pub lines_are_text : (text : List ℕ) (words : Words) → Lines text words → 
 lines_are_text text words lines = (words_from 1 lines.pieces, (lines.pieces, lines_are_cut text lines, refl), lines.said 1)
 
 -- and there are no others, where a text is cut in one way
-pub lines_have_only : (text : List ℕ) (words : Words) → ((p q : List (List ℕ)) → Cut p text → Cut q text → p ≡ q) → Lines text words → (tokens : List Word) → AreTokens text tokens → texts tokens ≡ words
+pub lines_have_only : (text : List ℕ) (words : Words) → ((p q : List (List ℕ)) → Cut p text → Cut q text → p ≡ q) → Lines text words → (tokens : List Word)
+    → AreTokens text tokens → texts tokens ≡ words
 lines_have_only text words one lines tokens (pieces, cut, is) =
     ap texts is ∙ ap (λ p. texts (words_from 1 p)) (one pieces lines.pieces cut (lines_are_cut text lines)) ∙ lines.said 1

@@ -1,5 +1,5 @@
 -- Numbers in decimals, as words.
-use Rattle.std.proofs.Common.{◌≡◌, ℕ, suc, ◌-◌, ◌^◌, ◌<◌, ◌≤◌, Bool, true, false, not, ◌&&◌, ◌==◌, nat_le, List, [], ◌∷◌, length, get_or, ℤ, pos, negsuc, decimal, Ok, refl, arith}
+use Rattle.std.proofs.Common.{◌≡◌, ℕ, suc, ◌-◌, ◌^◌, ◌<◌, ◌≤◌, Bool, true, false, not, ◌&&◌, ◌==◌, List, [], ◌∷◌, length, get_or, ℤ, pos, negsuc, decimal, Ok, refl, arith}
 use Rattle.std.specs.Fmt.{signed_decimal}
 use Rattle.std.specs.Int.{IsInRange}
 use Rattle.std.specs.List.{list_any}
@@ -8,6 +8,7 @@ use Rattle.std.specs.Str.Parse.{digits_value}
 use Rattle.std.proofs.lemmas.Fmt.{decimal_is_IsNumeral, digits_decimal, decimal_nonempty}
 use Rattle.std.proofs.lemmas.Str.Parse.{numerals_by_value, tells_all_ascii_digits, tells_by_index}
 use Rattle.std.proofs.lemmas.Bool.Decides.{nat_tests}
+use Rattle.std.proofs.lemmas.Bool.{le-leb}
 use Rattle.leg_lex.specs.declared.limits.TheConstants.{NUMBER_LIMIT}
 use Rattle.leg_lex.specs.Cut.{kind_of, is_white}
 use Rattle.leg_lex.specs.Words.{is_name, is_plain_kind, is_mark, is_mark_byte}
@@ -63,9 +64,6 @@ digit_stays some last is = grind (arith, nat_tests)
 some_there : (d : ℕ) (digits : List ℕ) → (length (d ∷ digits) == 0) ≡ false
 some_there d digits = grind (arith, nat_tests)
 
-fits : (n limit : ℕ) → n ≤ limit → nat_le n limit ≡ true
-fits n limit le = grind (arith, nat_tests)
-
 -- digits alone, and digits behind a minus sign (45)
 positive_word : (n : ℕ) (digits : List ℕ) → n ≤ NUMBER_LIMIT → AreDigits n digits → IsNumberWord (pos n) digits
 positive_word n [] le are = absurd (omega (arith, are.some))
@@ -77,7 +75,7 @@ positive_word n (d ∷ digits) le are =
     let minus : (d == 45) ≡ false = grind (arith, nat_tests) in record {
       name = rw (digit_plain d first, none, no_mark d digits first) refl;
       printable = rw (digit_plain d first, none, stays) refl;
-      back = rw (plus, minus, are.all, some_there d digits, are.value, fits n NUMBER_LIMIT le) refl;
+      back = rw (plus, minus, are.all, some_there d digits, are.value, le-leb n NUMBER_LIMIT le) refl;
     }
 
 negative_word : (n : ℕ) (digits : List ℕ) → suc n ≤ NUMBER_LIMIT → AreDigits (suc n) digits → IsNumberWord (negsuc n) (45 ∷ digits)
@@ -89,7 +87,7 @@ negative_word n (d ∷ digits) le are =
     let stays : stays_one (45 ∷ d ∷ digits) ≡ true = digit_stays _ _ last in record {
       name = rw none refl;
       printable = rw (none, stays) refl;
-      back = rw (are.all, some_there d digits, are.value, fits (suc n) NUMBER_LIMIT le) refl;
+      back = rw (are.all, some_there d digits, are.value, le-leb (suc n) NUMBER_LIMIT le) refl;
     }
 
 pub number_word : (z : ℤ) → IsNumber z → IsNumberWord z (signed_decimal z)

@@ -2,7 +2,7 @@
 use Rattle.std.proofs.Common.{◌≡◌, ℕ, ◌+◌, ◌*◌, ◌/◌, ◌%◌, ◌<◌, ◌≤◌, ◌⊎◌, inl, inr, List, [], ◌∷◌, ◌++◌, min, Contains, length, sym, ap, ◌∙◌, arith}
 use Rattle.std.proofs.Math.Nat.{mul-le-mul_left, mul-le-mul_right, min-le_left, min-le_right}
 use Rattle.std.proofs.lemmas.Nat.{div-mul-add}
-use Rattle.leg_sweep.proofs.Lists.{Contains-nil, Contains-here, Contains-there, Contains-cons_cases}
+use Rattle.leg_lemmas.proofs.Contained.{Contains-nil, Contains-here, Contains-there, Contains-cons_cases}
 use Rattle.leg_rules.specs.declared.side.Side.{Side}
 use Rattle.leg_route_search.specs.Steps.Side.{opposite}
 use Rattle.leg_rules.specs.declared.side.Side.TheVariants.{West, East, South, North, Below, Above}
@@ -207,7 +207,7 @@ in_boxes grid boxes ends n s slot has inside =
     bound_is grid boxes n s slot ∙ left
 
 -- what lies on a side of a node has it on the other
-turned_beside : (grid : GridModel) (side : Side) (n to : ℕ) → IsNeighbourAt grid side n to → IsNeighbourAt grid (opposite side) to n
+pub turned_beside : (grid : GridModel) (side : Side) (n to : ℕ) → IsNeighbourAt grid side n to → IsNeighbourAt grid (opposite side) to n
 turned_beside grid West n to step = record { a = step.b; b = step.a; a_is = step.b_is; b_is = step.a_is; step = step.step }
 turned_beside grid East n to step = record { a = step.b; b = step.a; a_is = step.b_is; b_is = step.a_is; step = step.step }
 turned_beside grid South n to step = record { a = step.b; b = step.a; a_is = step.b_is; b_is = step.a_is; step = step.step }

@@ -24,10 +24,11 @@ use Rattle.leg_route_grid.specs.Steps.Reaches.{Reaches, ReachesMetal, AreAlong, 
 use Rattle.leg_route_grid.proofs.GridSlots.{lies_at, runs_there}
 use Rattle.leg_route_grid.proofs.SlotSides.{beside_is}
 use Rattle.leg_route_grid.proofs.OpenNodes.{one_width, runs_at_node, width_is}
-use Rattle.leg_route_grid.proofs.OpenSteps.{via_rises, one_layer, other_layer, via_there, layer_above, said_there, stretch_east, stretch_north}
+use Rattle.leg_route_grid.proofs.OpenSteps.{one_layer, other_layer, via_there, layer_above, said_there, stretch_east, stretch_north}
 use Rattle.leg_route_grid.proofs.FarSlots.{IsWireAround, patch_around, segment_around, via_around, IsHere, AreEnds, IsSlotPast, far_wire}
 use Rattle.leg_route_grid.proofs.GrownSlots.{beside_open, IsFarFrom}
 use Rattle.leg_route_grid.proofs.NoLoss.{step_elsewhere}
+use Rattle.leg_route_grid.proofs.NodeSides.{via_rises}
 
 module _ (grid : GridModel) (is_grid : IsDesignGrid grid) (sound : IsSound grid.design.library) (n k j i : ℕ) (slot : IsSlot grid n k j i) (layer : ℕ)
     (reach : Option ℤ) (reaches : ReachesMetal grid k layer reach) (along_x along_y : Bool) (along : AreAlong grid k layer along_x along_y) where

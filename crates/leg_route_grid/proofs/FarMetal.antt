@@ -1,7 +1,8 @@
 -- Metal that lies farther from a shape than the spacing is clean beside it.
-use Rattle.std.proofs.Common.{◌≡◌, ℕ, suc, zero, ◌+◌, ◌-◌, ◌*◌, ◌<◌, ◌≤◌, ◌⊎◌, inl, inr, ℤ, pos, ◌+ℤ◌, ◌<ℤ◌, unsigned_abs, [], ◌∷◌, Contains, get_or, Some, slice_get, sym, ap, subst, ◌∙◌, arith}
+use Rattle.std.proofs.Common.{◌≡◌, ℕ, ◌+◌, ◌-◌, ◌*◌, ◌<◌, ◌≤◌, ◌⊎◌, inl, inr, ℤ, pos, ◌+ℤ◌, ◌<ℤ◌, unsigned_abs, Some, slice_get, sym, ap, subst, ◌∙◌, arith}
 use Rattle.std.proofs.lemmas.Int.{ints}
 use Rattle.std.proofs.Math.Nat.{mul-le-mul}
+use Rattle.leg_lemmas.proofs.Places.{the_only}
 use Rattle.leg_geom.specs.Plane.{PointModel, RectModel, HasPoint}
 use Rattle.leg_geom.specs.Gap.{apart, square_distance}
 use Rattle.leg_lib_records.specs.Records.{LibraryModel}
@@ -38,13 +39,6 @@ not_itself distance p (inl (inr x)) = omega (arith, ints, x)
 not_itself distance p (inr (inl y)) = omega (arith, ints, y)
 not_itself distance p (inr (inr y)) = omega (arith, ints, y)
 
--- a list of one
-pub the_one : {X : Type 0} (x y : X) → Contains (x ∷ []) y → x ≡ y
-the_one x y there = by there.0 there.1 there.2 where
-  by : (k : ℕ) → k < 1 → get_or (x ∷ []) k y ≡ y → x ≡ y
-  by zero below is = is
-  by (suc k) below is = absurd (omega (arith, below))
-
 module _ (library : LibraryModel) (shape : Shape) where
   abbrev clear : ℕ
   clear = clear_at library.layers shape.layer
@@ -67,7 +61,7 @@ module _ (library : LibraryModel) (shape : Shape) where
   pub far_is_clean : (net layer : ℕ) (rect : RectModel) → IsFar layer rect → IsClean library (alone shape) net layer rect
   far_is_clean net layer rect far = record {
     no_short = λ s there short. let P : Shape → Type 0 = λ s. AreShort (net_metal net layer rect) s in
-        not_short net layer rect far (subst P (sym (the_one shape s there)) short);
+        not_short net layer rect far (subst P (sym (the_only shape s there)) short);
     far = λ s there near. let P : Shape → Type 0 = λ s. AreTooNear library (net_metal net layer rect) s in
-        not_too_near net layer rect far (subst P (sym (the_one shape s there)) near);
+        not_too_near net layer rect far (subst P (sym (the_only shape s there)) near);
   }

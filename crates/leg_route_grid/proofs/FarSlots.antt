@@ -2,6 +2,7 @@
 use Rattle.std.proofs.Common.{◌≡◌, ℕ, ◌+◌, ◌≤◌, ◌⊎◌, inl, inr, ℤ, pos, ◌+ℤ◌, ◌-ℤ◌, ◌≤ℤ◌, ◌<ℤ◌, Bool, List, ◌++◌, All, Contains, map, Option, None, Some, slice_get, refl, ap, subst, ◌∙◌, arith}
 use Rattle.std.proofs.lemmas.Int.{ints}
 use Rattle.std.proofs.lemmas.List.Elements.{All-contains}
+use Rattle.leg_lemmas.proofs.Places.{get_first, the_only}
 use Rattle.leg_geom.specs.Plane.{PointModel, RectModel, HasPoint}
 use Rattle.leg_geom.specs.Orientation.{moved, ComesFrom}
 use Rattle.leg_lib_records.specs.Sound.{IsWidth}
@@ -19,9 +20,8 @@ use Rattle.leg_rules.specs.Route.OpenMetal.{IsOpenWire}
 use Rattle.leg_route_grid.specs.Steps.Grid.{GridModel}
 use Rattle.leg_route_grid.specs.Steps.Stretches.{IsStretch}
 use Rattle.leg_route_grid.specs.Steps.Reaches.{Reaches, ReachesAll, ReachesShape, clear_at, one_if}
-use Rattle.leg_route_grid.proofs.FarMetal.{IsBeyond, AreBeyond, the_one, far_is_clean}
+use Rattle.leg_route_grid.proofs.FarMetal.{IsBeyond, AreBeyond, far_is_clean}
 use Rattle.leg_route_grid.proofs.OpenVias.{metal_at, image_at}
-use Rattle.leg_route_grid.proofs.ListEnds.{read_old}
 use Rattle.leg_route_grid.proofs.Strips.{strip_of, points_forth}
 
 -- the point lies between these two, or not farther than this from there
@@ -87,7 +87,7 @@ module _ (design : DesignModel) (layer : ℕ) (reach : Option ℤ) where
       → IsWireAround design layer reach at at (Patch on at (square (half width)))
   patch_around on at width reaches metal there here =
       let the : OnLayer = record { layer = on; outline = Shifted at (square (half width)) } in
-      let same : the ≡ metal = the_one the metal there in
+      let same : the ≡ metal = the_only the metal there in
       let P : OnLayer → Type 0 = λ m. AreAround reach at at (λ p. HasPointOf m.outline p) in
       subst P same (shifted_around reach at (square (half width)) (square_reach reach width (reaches (ap (λ (m : OnLayer). m.layer) same ∙ here))))
 
@@ -95,7 +95,7 @@ module _ (design : DesignModel) (layer : ℕ) (reach : Option ℤ) where
       → IsWireAround design layer reach low high (Segment on low high width (half width) (half width))
   segment_around on low high width wide stretch reaches metal there here =
       let the : OnLayer = record { layer = on; outline = Line low high width (half width) (half width) } in
-      let same : the ≡ metal = the_one the metal there in
+      let same : the ≡ metal = the_only the metal there in
       let P : OnLayer → Type 0 = λ m. AreAround reach low high (λ p. HasPointOf m.outline p) in
       subst P same (line_around reach low high width wide stretch (reaches (ap (λ (m : OnLayer). m.layer) same ∙ here)))
 
@@ -103,7 +103,7 @@ module _ (design : DesignModel) (layer : ℕ) (reach : Option ℤ) where
       → IsWireAround design layer reach at at (ViaAt via at)
   via_around via at said is all metal there here =
       let outlines : via_outlines (slice_get (design.library.vias ++ design.vias) via) (ViaAt via at) ≡ map (metal_at at) said.shapes =
-      ap (λ (v : Option ViaModel). via_outlines v (ViaAt via at)) (read_old design.library.vias design.vias via said is) in
+      ap (λ (v : Option ViaModel). via_outlines v (ViaAt via at)) (get_first design.library.vias design.vias via said is) in
       let in_map : Contains (map (metal_at at) said.shapes) metal = subst (λ (ms : List OnLayer). Contains ms metal) outlines there in
       let image = image_at (metal_at at) said.shapes metal in_map.0 in_map.1 in_map.2 in
       let on : image.x.layer ≡ layer = ap (λ (m : OnLayer). m.layer) image.is ∙ here in

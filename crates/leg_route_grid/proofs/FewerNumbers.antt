@@ -1,28 +1,20 @@
 -- Numbers of which some are dropped, and others added.
-use Rattle.std.proofs.Common.{◌≡◌, ℕ, zero, suc, ◌<◌, ◌⊎◌, inl, inr, Bool, true, false, List, [], ◌∷◌, Contains, length, get_or, refl, sym, subst, arith}
+use Rattle.std.proofs.Common.{◌≡◌, ℕ, ◌⊎◌, inl, inr, Bool, true, false, List, [], ◌∷◌, Contains, length, refl, sym, subst, arith}
 use Rattle.std.specs.List.{items_where_true}
 use Rattle.std.specs.List.Retain.{IsFiltered, ReturnsInTurn}
+use Rattle.leg_lemmas.proofs.Contained.{Contains-cons_cases, Contains-there}
 use Rattle.leg_route_grid.specs.Steps.SlotRanges.{HaveGot, HaveDropped}
-
-here_or_later : {X : Type 0} (x : X) (xs : List X) (y : X) → Contains (x ∷ xs) y → (x ≡ y) ⊎ Contains xs y
-here_or_later x xs y there = by there.0 there.1 there.2 where
-  by : (k : ℕ) → k < length (x ∷ xs) → get_or (x ∷ xs) k y ≡ y → (x ≡ y) ⊎ Contains xs y
-  by zero within is = inl is
-  by (suc k) within is = inr (k, omega (arith, within), is)
-
-later : {X : Type 0} (x : X) (xs : List X) (y : X) → Contains xs y → Contains (x ∷ xs) y
-later x xs y there = (suc there.0, omega (arith, there.1), there.2)
 
 module _ {X F : Type 0} (R : F → X → Bool → F → Type 0) (P : X → Type 0) (f : F)
     (h : (x : X) (b : Bool) (g : F) → R f x b g → (b ≡ false → P x) × (g ≡ f)) where
   still_there : (bs : List Bool) (xs : List X) (y : X) → Contains (items_where_true bs xs) y → Contains xs y
   still_there [] xs y there = absurd (omega (arith, there.1))
   still_there (b ∷ bs) [] y there = absurd (omega (arith, there.1))
-  still_there (true ∷ bs) (x ∷ xs) y there = elim (here_or_later x (items_where_true bs xs) y there) [
+  still_there (true ∷ bs) (x ∷ xs) y there = elim (Contains-cons_cases x (items_where_true bs xs) y there) [
     | inl same ↦ (0, omega arith, same)
-    | inr more ↦ later x xs y (still_there bs xs y more)
+    | inr more ↦ Contains-there x xs y (still_there bs xs y more)
   ]
-  still_there (false ∷ bs) (x ∷ xs) y there = later x xs y (still_there bs xs y there)
+  still_there (false ∷ bs) (x ∷ xs) y there = Contains-there x xs y (still_there bs xs y there)
 
   left_or : (bs : List Bool) (xs : List X) (q : F) → length bs ≡ length xs → ReturnsInTurn R f bs xs q → (y : X) → Contains xs y
       → Contains (items_where_true bs xs) y ⊎ P y
@@ -32,14 +24,14 @@ module _ {X F : Type 0} (R : F → X → Bool → F → Type 0) (P : X → Type 
   left_or (true ∷ bs) (x ∷ xs) q long told y there =
       let one = h x true told.0 told.1 in
       let rest = left_or bs xs q (omega (arith, long)) (subst (λ (g : F). ReturnsInTurn R g bs xs q) one.1 told.2) y in
-      elim (here_or_later x xs y there) [
+      elim (Contains-cons_cases x xs y there) [
         | inl same ↦ inl (0, omega arith, same)
-        | inr more ↦ elim (rest more) [ inl left ↦ inl (later x (items_where_true bs xs) y left) | inr p ↦ inr p ]
+        | inr more ↦ elim (rest more) [ inl left ↦ inl (Contains-there x (items_where_true bs xs) y left) | inr p ↦ inr p ]
       ]
   left_or (false ∷ bs) (x ∷ xs) q long told y there =
       let one = h x false told.0 told.1 in
       let rest = left_or bs xs q (omega (arith, long)) (subst (λ (g : F). ReturnsInTurn R g bs xs q) one.1 told.2) y in
-      elim (here_or_later x xs y there) [ inl same ↦ inr (subst P same (one.0 refl)) | inr more ↦ rest more ]
+      elim (Contains-cons_cases x xs y there) [ inl same ↦ inr (subst P same (one.0 refl)) | inr more ↦ rest more ]
 
   -- what is left where a closure says of which numbers it is `false`
   pub left_of : (xs ys : List X) → IsFiltered R f xs ys → ((y : X) → Contains ys y → Contains xs y) × ((y : X) → Contains xs y → Contains ys y ⊎ P y)

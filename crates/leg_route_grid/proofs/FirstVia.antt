@@ -1,6 +1,7 @@
 -- The first via that joins two layers.
 use Rattle.std.proofs.Common.{◌≡◌, ℕ, ◌+◌, ◌<◌, ◌≤◌, ◌⊎◌, inl, inr, true, false, List, Contains, length, get_or, Option, None, Some, slice_get, refl, sym, ap, ◌∙◌, arith}
 use Rattle.std.proofs.lemmas.Option.{same_Some, slice_get-get_or, slice_get_within, slice_get_read}
+use Rattle.std.proofs.lemmas.Bool.{cases_order}
 use Rattle.leg_lib_records.specs.Records.{LibraryModel, ViaModel}
 use Rattle.leg_rules.specs.Route.Between.{JoinsLayers, JoinsByDefault, IsFirst, IsVia}
 use Rattle.leg_route_grid.specs.Steps.Grid.{IsViaIfAny}
@@ -15,13 +16,10 @@ module _ (Holds : ViaModel → Type 0) (vias : List ViaModel) where
   NoneBelow i = (j : ℕ) (other : ViaModel) → j < i → slice_get vias j ≡ Some other → ¬ Holds other
 
   pub none_more : (i : ℕ) (via : ViaModel) → slice_get vias i ≡ Some via → ¬ Holds via → NoneBelow i → NoneBelow (i + 1)
-  none_more i via there other none j via' below at_j = by (order j i) at_j where
-    order : (j i : ℕ) → (j < i) ⊎ ((j ≡ i) ⊎ (i < j))
-    order j i = grind arith
-
-    by : (j < i) ⊎ ((j ≡ i) ⊎ (i < j)) → slice_get vias j ≡ Some via' → ¬ Holds via'
-    by (inl less) at_j = none j via' less at_j
-    by (inr (inl same)) at_j = let is : via ≡ via' = same_Some via via' (sym there ∙ ap (slice_get vias) (sym same) ∙ at_j) in rw (← is) other
+  none_more i via there other none j via' below at_j = by (cases_order j i) at_j where
+    by : (j ≡ i) ⊎ ((j < i) ⊎ (i < j)) → slice_get vias j ≡ Some via' → ¬ Holds via'
+    by (inl same) at_j = let is : via ≡ via' = same_Some via via' (sym there ∙ ap (slice_get vias) (sym same) ∙ at_j) in rw (← is) other
+    by (inr (inl less)) at_j = none j via' less at_j
     by (inr (inr more)) at_j = absurd (omega (arith, below, more))
 
   pub none_at_all : (i : ℕ) → length vias ≤ i → NoneBelow i → (via : ViaModel) → Contains vias via → ¬ Holds via
@@ -29,13 +27,10 @@ module _ (Holds : ViaModel → Type 0) (vias : List ViaModel) where
 
   -- there is one first
   pub one_first : (k j : ℕ) → IsFirst Holds vias k → IsFirst Holds vias j → k ≡ j
-  one_first k j first other = by (order k j) where
-    order : (k j : ℕ) → (k < j) ⊎ ((k ≡ j) ⊎ (j < k))
-    order k j = grind arith
-
-    by : (k < j) ⊎ ((k ≡ j) ⊎ (j < k)) → k ≡ j
-    by (inl less) = absurd (other.none_before k first.via less first.there first.holds)
-    by (inr (inl same)) = same
+  one_first k j first other = by (cases_order k j) where
+    by : (k ≡ j) ⊎ ((k < j) ⊎ (j < k)) → k ≡ j
+    by (inl same) = same
+    by (inr (inl less)) = absurd (other.none_before k first.via less first.there first.holds)
     by (inr (inr more)) = absurd (first.none_before j other.via more other.there other.holds)
 
   pub first_is_there : (k : ℕ) → (first : IsFirst Holds vias k) → Contains vias first.via

@@ -2,6 +2,7 @@
 use Rattle.std.proofs.Common.{◌≡◌, ℕ, ◌+◌, ◌*◌, ◌<◌, ◌⊎◌, ◌↔◌, inl, inr, ℤ, ◌<ℤ◌, Bool, true, List, AllPairs, Contains, length, get_or, Some, slice_get, refl, sym, ap, ◌∙◌, arith}
 use Rattle.std.proofs.lemmas.Int.{ints}
 use Rattle.std.proofs.lemmas.Option.{same_Some, slice_get-get_or, slice_get_within, get_or_from_slice_get}
+use Rattle.std.proofs.lemmas.Bool.{cases_order}
 use Rattle.leg_lib_records.specs.declared.records.Direction.{Direction}
 use Rattle.leg_lib_records.specs.declared.records.Direction.TheVariants.{Horizontal, Vertical}
 use Rattle.leg_lib_records.specs.declared.records.LayerKind.TheVariants.{Routing}
@@ -22,16 +23,13 @@ same_node a b layer x y = λ i. record { layer = layer i; at = record { x = x i;
 -- an element stands in one place of a list that is in order
 pub one_place : {T : Type 0} (R : T → T → Type 0) (list : List T) (i j : ℕ) (a b : T) → AllPairs R list → slice_get list i ≡ Some a
     → slice_get list j ≡ Some b → ¬ R a b → ¬ R b a → i ≡ j
-one_place {T} R list i j a b rising at_i at_j not_less not_more = by (order i j) where
-  order : (i j : ℕ) → (i < j) ⊎ ((i ≡ j) ⊎ (j < i))
-  order i j = grind arith
-
+one_place {T} R list i j a b rising at_i at_j not_less not_more = by (cases_order i j) where
   read : (k : ℕ) (c d : T) → slice_get list k ≡ Some c → get_or list k d ≡ c
   read k c d is = get_or_from_slice_get list k c d is
 
-  by : (i < j) ⊎ ((i ≡ j) ⊎ (j < i)) → i ≡ j
-  by (inl less) = absurd (not_less (rw (read i a a at_i) at (rw (read j b a at_j) at (rising i j a less (slice_get_within list j b at_j)))))
-  by (inr (inl same)) = same
+  by : (i ≡ j) ⊎ ((i < j) ⊎ (j < i)) → i ≡ j
+  by (inl same) = same
+  by (inr (inl less)) = absurd (not_less (rw (read i a a at_i) at (rw (read j b a at_j) at (rising i j a less (slice_get_within list j b at_j)))))
   by (inr (inr more)) = absurd (not_more (rw (read i a a at_i) at (rw (read j b a at_j) at (rising j i a more (slice_get_within list i a at_i)))))
 
 -- wires of a layer run in one direction

@@ -1,9 +1,10 @@
 -- The wires of nodes and steps of the grid are such as a DEF can spell.
-use Rattle.std.proofs.Common.{◌≡◌, ◌≢◌, ℕ, suc, zero, ◌⊎◌, inl, inr, ℤ, pos, ◌-ℤ◌, ◌≤ℤ◌, ◌<ℤ◌, false, true, Bool, ◌||◌, IsTrue, List, [], ◌∷◌, ◌++◌, Option, None, Some, slice_get, refl, sym, ap, ◌∙◌, arith}
+use Rattle.std.proofs.Common.{◌≡◌, ◌≢◌, ℕ, suc, zero, ◌⊎◌, inl, inr, ℤ, pos, ◌-ℤ◌, ◌≤ℤ◌, ◌<ℤ◌, false, true, IsTrue, List, [], ◌∷◌, ◌++◌, Option, None, Some, slice_get, refl, sym, ap, ◌∙◌, arith}
 use Rattle.std.specs.Ordering.{int_eq}
 use Rattle.std.proofs.lemmas.Int.{ints}
 use Rattle.std.proofs.lemmas.Option.{same_Some}
 use Rattle.std.proofs.lemmas.List.Elements.{All-contains}
+use Rattle.std.proofs.lemmas.Bool.{or_right, or_left}
 use Rattle.leg_lex.specs.Number.{IsNumber}
 use Rattle.leg_lex.specs.Words.{◌>>=◌}
 use Rattle.leg_geom.specs.Plane.{PointModel}
@@ -70,20 +71,12 @@ node_routes design node (inr level) = rw (runs_width design.library node.layer H
 same_z : (a b : ℤ) → a ≡ b → int_eq b a ≡ true
 same_z a b is = grind (arith, ints)
 
-either : (a b : Bool) → b ≡ true → (a || b) ≡ true
-either true b is = refl
-either false b is = is
-
-or_first : (a b : Bool) → a ≡ true → (a || b) ≡ true
-or_first true b is = refl
-or_first false b is = absurd (let e : ⊥ = cc is in e)
-
 -- a straight run is no point, and goes along an axis
 straight : (side : Side) (a b : Node) → IsOnLayer side → LiesDue side a b → IsTrue (is_straight a.at b.at)
-straight West a b on is = either (int_eq a.at.x b.at.x) (int_eq a.at.y b.at.y) (same_z b.at.y a.at.y is.1)
-straight East a b on is = either (int_eq a.at.x b.at.x) (int_eq a.at.y b.at.y) (same_z b.at.y a.at.y is.1)
-straight South a b on is = or_first (int_eq a.at.x b.at.x) (int_eq a.at.y b.at.y) (same_z b.at.x a.at.x is.1)
-straight North a b on is = or_first (int_eq a.at.x b.at.x) (int_eq a.at.y b.at.y) (same_z b.at.x a.at.x is.1)
+straight West a b on is = or_right (int_eq a.at.x b.at.x) (int_eq a.at.y b.at.y) (same_z b.at.y a.at.y is.1)
+straight East a b on is = or_right (int_eq a.at.x b.at.x) (int_eq a.at.y b.at.y) (same_z b.at.y a.at.y is.1)
+straight South a b on is = or_left (int_eq a.at.x b.at.x) (int_eq a.at.y b.at.y) (same_z b.at.x a.at.x is.1)
+straight North a b on is = or_left (int_eq a.at.x b.at.x) (int_eq a.at.y b.at.y) (same_z b.at.x a.at.x is.1)
 straight Below a b on is = absurd on
 straight Above a b on is = absurd on
 

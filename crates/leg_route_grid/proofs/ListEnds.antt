@@ -1,5 +1,5 @@
 -- The elements of a list that has got one more, or another one in a place.
-use Rattle.std.proofs.Common.{◌≡◌, ◌≢◌, ℕ, suc, zero, ◌<◌, ◌⊎◌, inl, inr, List, [], ◌∷◌, ◌++◌, Some, slice_get, slice_set, length, refl, arith}
+use Rattle.std.proofs.Common.{◌≡◌, ℕ, suc, zero, ◌<◌, ◌⊎◌, inl, inr, List, [], ◌∷◌, ◌++◌, Some, slice_get, length, refl, arith}
 use Rattle.std.proofs.lemmas.Option.{same_Some, none-some}
 
 -- an element of it is an old one, or the new one in the last place
@@ -19,20 +19,3 @@ read_pushed (a ∷ xs) x (suc j) y is = elim (read_pushed xs x j y is) [
   | inl old ↦ inl (record { below = omega (arith, old.below); is = old.is })
   | inr last ↦ inr (record { last = omega (arith, last.last); is = last.is })
 ]
-
-pub read_old : {X : Type 0} (xs ys : List X) (j : ℕ) (y : X) → slice_get xs j ≡ Some y → slice_get (xs ++ ys) j ≡ Some y
-read_old [] ys j y is = absurd (none-some y is)
-read_old (a ∷ xs) ys zero y is = is
-read_old (a ∷ xs) ys (suc j) y is = read_old xs ys j y is
-
-pub set_same : {X : Type 0} (xs : List X) (i : ℕ) (w : X) → i < length xs → slice_get (slice_set xs i w) i ≡ Some w
-set_same [] i w h = absurd (omega (arith, h))
-set_same (x ∷ xs) zero w h = refl
-set_same (x ∷ xs) (suc i) w h = set_same xs i w (omega (arith, h))
-
-pub set_other : {X : Type 0} (xs : List X) (i j : ℕ) (w : X) → j ≢ i → slice_get (slice_set xs i w) j ≡ slice_get xs j
-set_other [] i j w h = refl
-set_other (x ∷ xs) zero zero w h = absurd (h refl)
-set_other (x ∷ xs) zero (suc j) w h = refl
-set_other (x ∷ xs) (suc i) zero w h = refl
-set_other (x ∷ xs) (suc i) (suc j) w h = set_other xs i j w (λ same. h (omega (arith, same)))

@@ -3,6 +3,7 @@ use Rattle.std.proofs.Common.{◌≡◌, ℕ, zero, suc, ◌+◌, ◌-◌, ◌<�
 use Rattle.std.proofs.lemmas.Int.{ints}
 use Rattle.std.specs.Int.{int_max}
 use Rattle.std.specs.Option.{unwrap_or}
+use Rattle.leg_lemmas.proofs.Integers.{cases_lt_z}
 use Rattle.leg_lex.specs.declared.limits.TheConstants.{NUMBER_LIMIT}
 use Rattle.leg_lex.specs.Number.{IsNumber}
 use Rattle.leg_geom.specs.Plane.{RectModel, IsCoordinate}
@@ -34,17 +35,14 @@ places_before values back low high first end near places early = record {
   by k m (inl some) below upto = omega (arith, some, below, upto)
   by k m (inr none) below upto = absurd (omega (arith, none, below))
 
-  order : (a b : ℤ) → (a <ℤ b) ⊎ (b ≤ℤ a)
-  order a b = grind (arith, ints)
-
   lower : (m : ℕ) (z : ℤ) → slice_get values m ≡ Some z → m < first → z <ℤ low
-  lower m z there before = elim (order z low) [
+  lower m z there before = elim (cases_lt_z z low) [
     | inl less ↦ less
     | inr least ↦ absurd (let from = places.first_in m z there least in omega (arith, from, before))
   ]
 
   higher : (k : ℕ) (z : ℤ) → slice_get values k ≡ Some z → end ≤ k → high <ℤ z
-  higher k z there from = elim (order high z) [
+  higher k z there from = elim (cases_lt_z high z) [
     | inl more ↦ more
     | inr most ↦ absurd (let below = places.end_in k z there most in omega (arith, from, below))
   ]
@@ -89,9 +87,6 @@ widened a b m proper within is =
 
 pub distance_fits : (m : ℤ) → IsDistance m → FitsSigned w64 m
 distance_fits m is = let least = is.least in let most = is.most in omega (arith, ints)
-
-pub number_fits : (z : ℤ) → IsNumber z → FitsSigned w64 z
-number_fits z within = omega (arith, ints)
 
 pub coordinate_fits : (z : ℤ) → IsCoordinate z → FitsSigned w64 z
 coordinate_fits z within = omega (arith, ints)

@@ -3,7 +3,8 @@ use Rattle.std.proofs.Common.{◌≡◌, ℕ, ◌+◌, ◌<◌, ℤ, ◌<ℤ◌,
 use Rattle.std.proofs.lemmas.Int.{ints}
 use Rattle.std.proofs.lemmas.Option.{slice_get-get_or, slice_get_within, get_or_from_slice_get, same_Some}
 use Rattle.std.proofs.lemmas.List.Elements.{All-contains}
-use Rattle.leg_sweep.proofs.Lists.{same_rising}
+use Rattle.std.proofs.lemmas.Bool.{cases_order}
+use Rattle.leg_lemmas.proofs.Rising.{same_rising}
 
 abbrev Rising : List ℤ → Type 0
 Rising values = AllPairs (λ a b. a <ℤ b) values
@@ -24,13 +25,11 @@ module _ (values : List ℤ) (rising : Rising values) where
       rw is_a at (rw is_b at more)
 
   pub more_is_later : (i j : ℕ) (a b : ℤ) → slice_get values i ≡ Some a → slice_get values j ≡ Some b → a <ℤ b → i < j
-  more_is_later i j a b at_i at_j less = elim (order i j) [
-    | inl before ↦ before
-    | inr (inl same) ↦ absurd (let e : a ≡ b = same_Some a b (sym at_i ∙ ap (slice_get values) same ∙ at_j) in omega (arith, ints))
+  more_is_later i j a b at_i at_j less = elim (cases_order i j) [
+    | inl same ↦ absurd (let e : a ≡ b = same_Some a b (sym at_i ∙ ap (slice_get values) same ∙ at_j) in omega (arith, ints))
+    | inr (inl before) ↦ before
     | inr (inr behind) ↦ absurd (let more = later_is_more j i b a at_j at_i behind in omega (arith, ints))
-  ] where
-    order : (i j : ℕ) → (i < j) ⊎ ((i ≡ j) ⊎ (j < i))
-    order i j = grind arith
+  ]
 
   pub read_value : (z : ℤ) → (there : Contains values z) → slice_get values there.0 ≡ Some z
   read_value z there = slice_get-get_or values there.0 z there.1 ∙ ap Some there.2
@@ -45,16 +44,13 @@ module _ (values : List ℤ) (rising : Rising values) where
   -- a value is the one behind another where none lies between
   pub next_is_behind : (i j : ℕ) (a b : ℤ) → slice_get values i ≡ Some a → slice_get values j ≡ Some b → a <ℤ b
       → ((c : ℤ) → Contains values c → a <ℤ c → ¬ (c <ℤ b)) → j ≡ i + 1
-  next_is_behind i j a b at_a at_b less none = by (order j (i + 1)) where
-    order : (i j : ℕ) → (i < j) ⊎ ((i ≡ j) ⊎ (j < i))
-    order i j = grind arith
-
+  next_is_behind i j a b at_a at_b less none = by (cases_order j (i + 1)) where
     after : i < j
     after = more_is_later i j a b at_a at_b less
 
-    by : (j < i + 1) ⊎ ((j ≡ i + 1) ⊎ (i + 1 < j)) → j ≡ i + 1
-    by (inl before) = absurd (omega (arith, after, before))
-    by (inr (inl is)) = is
+    by : (j ≡ i + 1) ⊎ ((j < i + 1) ⊎ (i + 1 < j)) → j ≡ i + 1
+    by (inl is) = is
+    by (inr (inl before)) = absurd (omega (arith, after, before))
     by (inr (inr beyond)) =
         let c = get_or values (i + 1) b in
         let within : i + 1 < length values = omega (arith, slice_get_within values j b at_b) in

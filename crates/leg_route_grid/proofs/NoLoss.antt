@@ -1,6 +1,7 @@
 -- A shape that takes away nothing of what is kept of a slot.
 use Rattle.std.proofs.Common.{◌≡◌, ◌≢◌, ℕ, inl, inr, ℤ, [], ◌∷◌, Bool, true, false, IsTrue, Contains, List, Some, slice_get, refl, sym, ap, subst, ◌∙◌}
 use Rattle.std.proofs.lemmas.Option.{same_Some}
+use Rattle.leg_lemmas.proofs.Places.{the_only}
 use Rattle.leg_geom.specs.Plane.{PointModel, RectModel}
 use Rattle.leg_lib_records.specs.Records.{LibraryModel}
 use Rattle.leg_design_records.specs.declared.records.Wire.{Wire}
@@ -24,7 +25,6 @@ use Rattle.leg_route_grid.specs.Steps.Grid.{GridModel, IsDesignGrid, IsNumberOf}
 use Rattle.leg_route_grid.specs.Steps.NodeNumbers.{IsOneOf}
 use Rattle.leg_route_grid.specs.Steps.AccessTable.{IsSlotAccess, IsOpenAlong}
 use Rattle.leg_route_grid.specs.Steps.AccessUpdates.{LosesNothing, AreSettled, AreAccessAfter}
-use Rattle.leg_route_grid.proofs.FarMetal.{the_one}
 use Rattle.leg_route_grid.proofs.OpenSteps.{other_layer}
 use Rattle.leg_route_grid.proofs.GrownSlots.{IsFarFrom, tells_far}
 
@@ -41,7 +41,7 @@ module _ (library : LibraryModel) (shape : Shape) (net : ℕ) where
     far = λ s there near. near.comparable.owners (owner_of s there);
   } where
     owner_of : (s : Shape) → Contains (shape ∷ []) s → Net net ≡ s.owner
-    owner_of s there = sym own ∙ ap (λ (s : Shape). s.owner) (the_one shape s there)
+    owner_of s there = sym own ∙ ap (λ (s : Shape). s.owner) (the_only shape s there)
 
   elsewhere_is_clean : (layer : ℕ) (rect : RectModel) → layer ≢ shape.layer → IsClean library (alone shape) net layer rect
   elsewhere_is_clean layer rect other = record {
@@ -49,7 +49,7 @@ module _ (library : LibraryModel) (shape : Shape) (net : ℕ) where
     far = λ s there near. other (near.comparable.layer ∙ layer_of s there);
   } where
     layer_of : (s : Shape) → Contains (shape ∷ []) s → s.layer ≡ shape.layer
-    layer_of s there = sym (ap (λ (s : Shape). s.layer) (the_one shape s there))
+    layer_of s there = sym (ap (λ (s : Shape). s.layer) (the_only shape s there))
 
 module _ (design : DesignModel) (shape : Shape) (net : ℕ) where
   own_wire : (wire : Wire) → shape.owner ≡ Net net → IsOpenWire design (alone shape) net wire
@@ -58,13 +58,13 @@ module _ (design : DesignModel) (shape : Shape) (net : ℕ) where
   patch_elsewhere : (on : ℕ) (at : PointModel) (rect : RectModel) → on ≢ shape.layer → IsOpenWire design (alone shape) net (Patch on at rect)
   patch_elsewhere on at area other metal rect there points =
       let the : OnLayer = record { layer = on; outline = Shifted at area } in
-      elsewhere_is_clean design.library shape net metal.layer rect (λ same. other (ap (λ (m : OnLayer). m.layer) (the_one the metal there) ∙ same))
+      elsewhere_is_clean design.library shape net metal.layer rect (λ same. other (ap (λ (m : OnLayer). m.layer) (the_only the metal there) ∙ same))
 
   segment_elsewhere : (on : ℕ) (low high : PointModel) (width before behind : ℤ) → on ≢ shape.layer
       → IsOpenWire design (alone shape) net (Segment on low high width before behind)
   segment_elsewhere on low high width before behind other metal rect there points =
       let the : OnLayer = record { layer = on; outline = Line low high width before behind } in
-      elsewhere_is_clean design.library shape net metal.layer rect (λ same. other (ap (λ (m : OnLayer). m.layer) (the_one the metal there) ∙ same))
+      elsewhere_is_clean design.library shape net metal.layer rect (λ same. other (ap (λ (m : OnLayer). m.layer) (the_only the metal there) ∙ same))
 
   node_elsewhere : (node : Node) (wire : Wire) → node.layer ≢ shape.layer → NodeAdds design node wire → IsOpenWire design (alone shape) net wire
   node_elsewhere node wire other adds =

@@ -1,6 +1,7 @@
 -- Nodes beside one another, and where they lie.
-use Rattle.std.proofs.Common.{◌≡◌, ℕ, ◌<◌, inl, inr, ℤ, ◌<ℤ◌, refl, sym, ◌∙◌, arith}
+use Rattle.std.proofs.Common.{◌≡◌, ℕ, ◌<◌, inl, inr, refl, sym, ◌∙◌, arith}
 use Rattle.std.proofs.lemmas.Int.{ints}
+use Rattle.leg_lemmas.proofs.Integers.{lt_trans_z}
 use Rattle.leg_lib_records.specs.Records.{LibraryModel}
 use Rattle.leg_design_records.specs.Records.{DesignModel}
 use Rattle.leg_rules.specs.declared.side.Side.{Side}
@@ -41,13 +42,10 @@ due_towards North a b is = (is.0, is.2)
 due_towards Below a b is = is
 due_towards Above a b is = is
 
-less_on : (x y z : ℤ) → x <ℤ y → y <ℤ z → x <ℤ z
-less_on x y z p q = omega (arith, ints)
-
 pub due_on : (side : Side) (a b c : Node) → LiesDue side a b → LiesDue side b c → LiesDue side a c
-due_on West a b c p q = (q.0 ∙ p.0, q.1 ∙ p.1, less_on c.at.x b.at.x a.at.x q.2 p.2)
-due_on East a b c p q = (q.0 ∙ p.0, q.1 ∙ p.1, less_on a.at.x b.at.x c.at.x p.2 q.2)
-due_on South a b c p q = (q.0 ∙ p.0, q.1 ∙ p.1, less_on c.at.y b.at.y a.at.y q.2 p.2)
-due_on North a b c p q = (q.0 ∙ p.0, q.1 ∙ p.1, less_on a.at.y b.at.y c.at.y p.2 q.2)
+due_on West a b c p q = (q.0 ∙ p.0, q.1 ∙ p.1, lt_trans_z c.at.x b.at.x a.at.x q.2 p.2)
+due_on East a b c p q = (q.0 ∙ p.0, q.1 ∙ p.1, lt_trans_z a.at.x b.at.x c.at.x p.2 q.2)
+due_on South a b c p q = (q.0 ∙ p.0, q.1 ∙ p.1, lt_trans_z c.at.y b.at.y a.at.y q.2 p.2)
+due_on North a b c p q = (q.0 ∙ p.0, q.1 ∙ p.1, lt_trans_z a.at.y b.at.y c.at.y p.2 q.2)
 due_on Below a b c p q = omega (arith, p, q)
 due_on Above a b c p q = omega (arith, p, q)

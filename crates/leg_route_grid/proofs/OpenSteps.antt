@@ -1,5 +1,5 @@
 -- Steps that are open, by the metal that they add.
-use Rattle.std.proofs.Common.{◌≡◌, ℕ, ◌+◌, ◌<◌, ◌⊎◌, ◌↔◌, inl, inr, ℤ, Some, slice_get, refl, sym, ap, subst, ◌∙◌, arith}
+use Rattle.std.proofs.Common.{◌≡◌, ℕ, ◌+◌, ◌⊎◌, ◌↔◌, inl, inr, ℤ, Some, slice_get, refl, sym, ap, subst, ◌∙◌, arith}
 use Rattle.leg_lib_records.specs.declared.records.Direction.{Direction}
 use Rattle.leg_lib_records.specs.Records.{LibraryModel, ViaModel}
 use Rattle.leg_design_records.specs.declared.records.Wire.{Wire}
@@ -24,11 +24,9 @@ use Rattle.leg_route_grid.specs.Steps.NodeNumbers.{IsStepOf, IsNeighbourAt, IsOp
 use Rattle.leg_route_grid.proofs.GridSlots.{the_node, numbered, lies_at}
 use Rattle.leg_route_grid.proofs.OpenNodes.{one_width}
 use Rattle.leg_route_grid.proofs.FirstVia.{one_via}
-use Rattle.leg_route_grid.proofs.SlotSides.{via_joins, beside_is}
+use Rattle.leg_route_grid.proofs.SlotSides.{beside_is}
 use Rattle.leg_route_grid.proofs.StepsAt.{ends_are_nodes, one_beside, step_from}
-
-pub via_rises : (library : LibraryModel) (low high via : ℕ) → IsVia library low high via → low < high
-via_rises library low high via leads = let joins = (via_joins library low high via leads).joins in omega (arith, joins.above, joins.below)
+use Rattle.leg_route_grid.proofs.NodeSides.{via_rises}
 
 pub one_layer : (design : DesignModel) (a b : Node) → IsInLine design a b → a.layer ≡ b.layer
 one_layer design a b (inl (inl west)) = west.layer

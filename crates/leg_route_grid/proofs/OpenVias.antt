@@ -2,6 +2,8 @@
 use Rattle.std.proofs.Common.{◌≡◌, ℕ, suc, zero, ◌+◌, ◌<◌, ◌↔◌, List, [], ◌∷◌, ◌++◌, All, Contains, length, take, get_or, map, Option, Some, slice_get, refl, sym, ap, subst, ◌∙◌, arith}
 use Rattle.std.proofs.lemmas.List.{take_more}
 use Rattle.std.proofs.lemmas.List.Elements.{All-nil, All-cons, All-head, All-tail, All-push, All-contains, Contains-get_or}
+use Rattle.leg_lemmas.proofs.Places.{get_first}
+use Rattle.leg_lemmas.proofs.Contained.{Contains-map}
 use Rattle.leg_geom.specs.Plane.{PointModel, RectModel, HasPoint}
 use Rattle.leg_lib_records.specs.declared.records.Shape.{Shape}
 use Rattle.leg_lib_records.specs.Records.{ViaModel}
@@ -11,10 +13,8 @@ use Rattle.leg_rules.specs.Metal.Outline.{HasPointOf}
 use Rattle.leg_rules.specs.Metal.Outline.Outline.{Shifted}
 use Rattle.leg_rules.specs.Metal.Metal.{OnLayer, via_outlines}
 use Rattle.leg_rules.specs.Metal.Flat.{FlatModel}
-use Rattle.leg_sweep.proofs.Lists.{Contains-map}
 use Rattle.leg_rules.specs.Spacing.Clean.{IsClean}
 use Rattle.leg_rules.specs.Route.OpenMetal.{IsOpenWire}
-use Rattle.leg_route_grid.proofs.ListEnds.{read_old}
 
 module _ {X : Type 0} (P : X → Type 0) where
   all_before : (xs ys : List X) → All P (xs ++ ys) → All P xs
@@ -82,7 +82,7 @@ module _ (design : DesignModel) (flat : FlatModel) (net : ℕ) (at : PointModel)
       → All IsOpenShape said.shapes ↔ IsOpenWire design flat net (ViaAt via at)
   via_is_open via said there =
       let outlines : via_outlines (slice_get (design.library.vias ++ design.vias) via) (ViaAt via at) ≡ map (metal_at at) said.shapes =
-      ap (λ (v : Option ViaModel). via_outlines v (ViaAt via at)) (read_old design.library.vias design.vias via said there) in (
+      ap (λ (v : Option ViaModel). via_outlines v (ViaAt via at)) (get_first design.library.vias design.vias via said there) in (
         λ all. subst AllClean (sym outlines) (all_clean said.shapes all),
         λ is_open. each_open said.shapes (subst AllClean outlines is_open),
       )

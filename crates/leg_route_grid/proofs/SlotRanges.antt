@@ -1,11 +1,12 @@
 -- Slots of a grid by ranges of rows and columns.
-use Rattle.std.proofs.Common.{◌≡◌, ℕ, ◌+◌, ◌<◌, ◌≤◌, ◌⊎◌, inl, inr, true, false, ℤ, ◌<ℤ◌, ◌≤ℤ◌, List, [], ◌∷◌, ◌++◌, All, AllPairs, Some, length, get_or, slice_get, sym, ap, ◌∙◌, arith}
+use Rattle.std.proofs.Common.{◌≡◌, ℕ, ◌+◌, ◌<◌, ◌≤◌, inl, inr, true, false, ℤ, ◌<ℤ◌, List, [], ◌∷◌, ◌++◌, All, AllPairs, Some, length, get_or, slice_get, sym, ap, ◌∙◌, arith}
 use Rattle.std.specs.Prelude.{int_lt, int_le, ltb}
 use Rattle.std.specs.List.Sorted.{IsPartitionedBy, IsPartitionPoint}
-use Rattle.std.proofs.lemmas.Bool.{cases_eq, cases_lt}
+use Rattle.std.proofs.lemmas.Bool.{cases_eq, cases_lt, cases_order}
 use Rattle.std.proofs.lemmas.Int.{ints}
 use Rattle.std.proofs.lemmas.Option.{same_Some, slice_get_within, slice_get-get_or, get_or_from_slice_get}
 use Rattle.std.proofs.lemmas.List.Elements.{Contains-append_left, Contains-push, Contains-push_cases}
+use Rattle.leg_lemmas.proofs.Integers.{le_test, le_from_test, lt_from_test, lt_test, least_from_test}
 use Rattle.leg_geom.specs.Plane.{RectModel}
 use Rattle.leg_route_grid.specs.declared.layers.RoutingLayer.{RoutingLayer}
 use Rattle.leg_rules.specs.declared.node.Node.{Node}
@@ -19,21 +20,6 @@ use Rattle.leg_route_grid.proofs.GridSlots.{one_place}
 use Rattle.leg_route_grid.proofs.Slots.{by_number}
 use Rattle.leg_route_grid.proofs.StepsAt.{point_in}
 
-below_from_test : (a b : ℤ) → int_lt a b ≡ true → a <ℤ b
-below_from_test a b test = grind (arith, ints)
-
-below_test : (a b : ℤ) → a <ℤ b → int_lt a b ≡ true
-below_test a b below = grind (arith, ints)
-
-least_from_test : (a b : ℤ) → int_lt a b ≡ false → b ≤ℤ a
-least_from_test a b test = grind (arith, ints)
-
-upto_from_test : (a b : ℤ) → int_le a b ≡ true → a ≤ℤ b
-upto_from_test a b test = grind (arith, ints)
-
-upto_test : (a b : ℤ) → a ≤ℤ b → int_le a b ≡ true
-upto_test a b upto = grind (arith, ints)
-
 above_from_test : (a b : ℤ) → int_le a b ≡ false → b <ℤ a
 above_from_test a b test = grind (arith, ints)
 
@@ -43,18 +29,18 @@ module _ (values : List ℤ) (rising : AllPairs (λ a b. a <ℤ b) values) where
   below_first low i j d upto within test = elim (cases_eq i j) [
     | inl same ↦ rw same test
     | inr differ ↦
-        let below = below_from_test (get_or values j d) low test in
+        let below = lt_from_test (get_or values j d) low test in
         let more = rising i j d (omega arith) within in
-        below_test (get_or values i d) low (omega (arith, ints, below, more))
+        lt_test (get_or values i d) low (omega (arith, ints, below, more))
   ]
 
   pub upto_first : (high : ℤ) → IsPartitionedBy (λ z. int_le z high) values
   upto_first high i j d upto within test = elim (cases_eq i j) [
     | inl same ↦ rw same test
     | inr differ ↦
-        let below = upto_from_test (get_or values j d) high test in
+        let below = le_from_test (get_or values j d) high test in
         let more = rising i j d (omega arith) within in
-        upto_test (get_or values i d) high (omega (arith, ints, below, more))
+        le_test (get_or values i d) high (omega (arith, ints, below, more))
   ]
 
 -- places by both of these points
@@ -64,19 +50,16 @@ pub places_from_points : (values : List ℤ) (low high : ℤ) (first end : ℕ) 
 places_from_points values low high first end within below upto = record {
   within = within;
   low_in = λ k z there from. least_from_test z low (late_low k z there from);
-  high_in = λ k z there before. upto_from_test z high (early_high k z there before);
-  first_in = λ k z there least. elim (order k first) [
-    | inl early ↦ absurd (let less = below_from_test z low (early_low k z there early) in omega (arith, ints, less, least))
+  high_in = λ k z there before. le_from_test z high (early_high k z there before);
+  first_in = λ k z there least. elim (cases_lt k first) [
+    | inl early ↦ absurd (let less = lt_from_test z low (early_low k z there early) in omega (arith, ints, less, least))
     | inr late ↦ late
   ];
-  end_in = λ k z there most. elim (order k end) [
+  end_in = λ k z there most. elim (cases_lt k end) [
     | inl early ↦ early
     | inr late ↦ absurd (let more = above_from_test z high (late_high k z there late) in omega (arith, ints, more, most))
   ];
 } where
-  order : (k n : ℕ) → (k < n) ⊎ (n ≤ k)
-  order k n = grind arith
-
   early_low : (k : ℕ) (z : ℤ) → slice_get values k ≡ Some z → k < first → int_lt z low ≡ true
   early_low k z there early = rw (get_or_from_slice_get values k z z there) at (below.0 k z (omega arith) early)
 
@@ -92,14 +75,11 @@ places_from_points values low high first end within below upto = record {
 -- one layer has a number
 pub one_layer : (layers : List RoutingLayer) → AllPairs (λ a b. a.number < b.number) layers → (number k m : ℕ) → IsRoutingLayerAt layers number k
     → IsRoutingLayerAt layers number m → k ≡ m
-one_layer layers rising number k m at_k at_m = elim (order k m) [
-  | inl less ↦ absurd (apart k m at_k at_m less)
-  | inr (inl same) ↦ same
+one_layer layers rising number k m at_k at_m = elim (cases_order k m) [
+  | inl same ↦ same
+  | inr (inl less) ↦ absurd (apart k m at_k at_m less)
   | inr (inr more) ↦ absurd (apart m k at_m at_k more)
 ] where
-  order : (k m : ℕ) → (k < m) ⊎ ((k ≡ m) ⊎ (m < k))
-  order k m = grind arith
-
   apart : (k m : ℕ) → IsRoutingLayerAt layers number k → IsRoutingLayerAt layers number m → k < m → ⊥
   apart k m at_k at_m less =
       let more = rising k m at_k.layer less (slice_get_within layers m at_m.layer at_m.there) in

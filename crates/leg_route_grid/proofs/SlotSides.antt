@@ -3,6 +3,7 @@ use Rattle.std.proofs.Common.{◌≡◌, ℕ, ◌+◌, ◌<◌, ◌⊎◌, ◌�
 use Rattle.std.proofs.lemmas.Int.{ints}
 use Rattle.std.proofs.lemmas.Option.{same_Some, slice_get-get_or, slice_get_within, get_or_from_slice_get}
 use Rattle.std.proofs.lemmas.List.Elements.{All-contains}
+use Rattle.std.proofs.lemmas.Bool.{cases_order}
 use Rattle.leg_geom.specs.Plane.{PointModel}
 use Rattle.leg_lib_records.specs.declared.records.Direction.TheVariants.{Horizontal, Vertical}
 use Rattle.leg_lib_records.specs.declared.joins.ViaPart.{ViaPart}
@@ -38,15 +39,12 @@ later layers i j a b rising at_i at_j less =
 
 behind : (layers : List RoutingLayer) (i j : ℕ) (a b : RoutingLayer) → Rises layers → slice_get layers i ≡ Some a → slice_get layers j ≡ Some b
     → a.number < b.number → i < j
-behind layers i j a b rising at_i at_j less = by (order i j) where
-  order : (i j : ℕ) → (i < j) ⊎ ((i ≡ j) ⊎ (j < i))
-  order i j = grind arith
-
-  by : (i < j) ⊎ ((i ≡ j) ⊎ (j < i)) → i < j
-  by (inl before) = before
-  by (inr (inl same)) =
+behind layers i j a b rising at_i at_j less = by (cases_order i j) where
+  by : (i ≡ j) ⊎ ((i < j) ⊎ (j < i)) → i < j
+  by (inl same) =
       absurd (let e : a ≡ b = same_Some a b (sym at_i ∙ ap (slice_get layers) same ∙ at_j) in
       let n : a.number ≡ b.number = ap (λ (l : RoutingLayer). l.number) e in omega (arith, n, less))
+  by (inr (inl before)) = before
   by (inr (inr after)) = absurd (let more = later layers j i b a rising at_j at_i after in omega (arith, more, less))
 
 -- what the parts of the via between two layers join
@@ -158,10 +156,7 @@ module _ (grid : GridModel) (is_grid : IsDesignGrid grid) (s t : Slot) (a b : No
 
   -- the layer above is the next one, since no routing layer lies between
   next_layer : HasJoins grid.design.library a.layer b.layer → t.layer ≡ s.layer + 1
-  next_layer joined = by (order t.layer (s.layer + 1)) where
-    order : (i j : ℕ) → (i < j) ⊎ ((i ≡ j) ⊎ (j < i))
-    order i j = grind arith
-
+  next_layer joined = by (cases_order t.layer (s.layer + 1)) where
     above_it : s.layer < t.layer
     above_it =
         let joins = joined.joins in
@@ -182,9 +177,9 @@ module _ (grid : GridModel) (is_grid : IsDesignGrid grid) (s t : Slot) (a b : No
         let none = joins.none_between mid.number (omega (arith, low, at_s.on)) (omega (arith, high, at_t.on)) in
         true≢false (sym routes ∙ none)
 
-    by : (t.layer < s.layer + 1) ⊎ ((t.layer ≡ s.layer + 1) ⊎ (s.layer + 1 < t.layer)) → t.layer ≡ s.layer + 1
-    by (inl less) = absurd (omega (arith, less, above_it))
-    by (inr (inl same)) = same
+    by : (t.layer ≡ s.layer + 1) ⊎ ((t.layer < s.layer + 1) ⊎ (s.layer + 1 < t.layer)) → t.layer ≡ s.layer + 1
+    by (inl same) = same
+    by (inr (inl less)) = absurd (omega (arith, less, above_it))
     by (inr (inr more)) = absurd (between more)
 
   pub above : IsAboveOf grid s t ↔ ((via : ℕ) × IsOver grid.design via a b)

@@ -1,7 +1,7 @@
 -- Slots that are kept while a shape is added, some of them after others.
 use Rattle.std.proofs.Common.{◌≡◌, ℕ, ◌+◌, ◌-◌, ◌*◌, ◌<◌, ◌≤◌, ◌⊎◌, inl, inr, ℤ, pos, ◌+ℤ◌, ◌-ℤ◌, Bool, true, List, [], ◌∷◌, ◌++◌, ◌/◌, ◌%◌, length, take, get_or, Contains, None, Some, slice_get, refl, sym, ap, subst, ◌∙◌, append_assoc, arith, length-take, get_or-take}
 use Rattle.std.specs.Prelude.{Option}
-use Rattle.std.proofs.lemmas.Bool.{cases_eq}
+use Rattle.std.proofs.lemmas.Bool.{cases_eq, cases_lt}
 use Rattle.std.proofs.lemmas.List.{take_more}
 use Rattle.std.proofs.lemmas.List.Elements.{Contains-append_right}
 use Rattle.std.proofs.lemmas.Option.{same_Some, slice_get_within, get_or_from_slice_get}
@@ -36,9 +36,6 @@ same_slot grid n k j i l r c slot other =
 record IsOut (values : List ℤ) (along : Bool) (low high : ℤ) (first end i : ℕ) : Type 0 where
   pub past : IsPast values along i low high
   pub out : first ≤ i → i < end → ⊥
-
-order : (k n : ℕ) → (k < n) ⊎ (n ≤ k)
-order k n = grind arith
 
 -- steps lead along both axes, for all that is asked
 pub all_along : (grid : GridModel) (k layer : ℕ) → AreAlong grid k layer true true
@@ -142,9 +139,9 @@ module _ (grid : GridModel) (shape : Shape) where
       -- a place that isn't among those near
       placed : (values : List ℤ) (back : Bool) (low high : ℤ) (first end i : ℕ) → ArePlacesNear values back low high first end
           → IsOut values back low high first end i ⊎ ((first ≤ i) × (i < end))
-      placed values back low high first end i near = elim (order i first) [
+      placed values back low high first end i near = elim (cases_lt i first) [
         | inl before ↦ inl (record { past = inl (λ m z upto there. near.before i m z before upto there); out = λ from below. omega (arith, before, from) })
-        | inr from ↦ elim (order i end) [
+        | inr from ↦ elim (cases_lt i end) [
           | inl below ↦ inr (from, below)
           | inr behind ↦ inl (record { past = inr (λ z there. near.behind i z behind there); out = λ from below. omega (arith, behind, below) })
         ]

@@ -1,5 +1,5 @@
 -- Numbers that are sorted, each once.
-use Rattle.std.proofs.Common.{◌≡◌, ◌<◌, ℤ, ◌<ℤ◌, true, Less, List, [], AllPairs, Contains, length, refl, arith}
+use Rattle.std.proofs.Common.{◌≡◌, ◌<◌, ℤ, ◌<ℤ◌, Less, List, [], AllPairs, Contains, length, refl, arith}
 use Rattle.std.specs.Cmp.{IsEquivalence}
 use Rattle.std.specs.Ordering.{int_cmp, int_eq}
 use Rattle.std.specs.List.{dedup}
@@ -11,15 +11,13 @@ use Rattle.std.proofs.lemmas.List.Filters.{dedup_is}
 use Rattle.std.proofs.lemmas.List.Kept.{Contains-dedup, Contains-from_dedup, IsStrictlySortedBy-dedup}
 use Rattle.std.proofs.lemmas.List.Sorted.{Contains-permutation, IsPermutation-sym}
 use Rattle.std.proofs.lemmas.Map.Keys.{Less-from_sorted}
-
-int_same : (x y : ℤ) → int_eq x y ≡ true → x ≡ y
-int_same x y h = grind (arith, ints)
+use Rattle.leg_lemmas.proofs.Integers.{eq_from_test}
 
 int_equivalence : IsEquivalence int_eq
 int_equivalence = record {
   refl = λ x. grind (arith, ints);
   symm = λ x y. grind (arith, ints);
-  congr = λ x y z same. rw (int_same x y same) refl;
+  congr = λ x y z same. rw (eq_from_test x y same) refl;
 }
 
 less_is : (x y : ℤ) → int_cmp x y ≡ Less → x <ℤ y
@@ -35,7 +33,7 @@ rises xs ys sorted kept i j d before within =
 
 pub keeps : (xs sorted ys : List ℤ) → IsPermutation xs sorted → IsFiltered (DiffersFromLast int_eq) [] sorted ys → (z : ℤ) → Contains xs z → Contains ys z
 keeps xs sorted ys moved kept z there =
-    rw (dedup_is int_eq sorted ys kept) (Contains-dedup int_equivalence int_same sorted z (Contains-permutation xs sorted z moved there))
+    rw (dedup_is int_eq sorted ys kept) (Contains-dedup int_equivalence eq_from_test sorted z (Contains-permutation xs sorted z moved there))
 
 pub came_from : (xs sorted ys : List ℤ) → IsPermutation xs sorted → IsFiltered (DiffersFromLast int_eq) [] sorted ys → (z : ℤ) → Contains ys z → Contains xs z
 came_from xs sorted ys moved kept z there =

@@ -39,13 +39,13 @@ module _ {Node : Type 0} (Open Other : Node → Type 0) (Step Further : Node →
 
 -- the ends of a walk are open
 module _ {Node : Type 0} {Open : Node → Type 0} {Step : Node → Node → Type 0} where
-  from_open : {a b : Node} {nodes : List Node} → Walk Open Step a nodes b → Open a
-  from_open (here is_open) = is_open
-  from_open (on is_open step rest) = is_open
+  pub walk_first : {a b : Node} {nodes : List Node} → Walk Open Step a nodes b → Open a
+  walk_first (here is_open) = is_open
+  walk_first (on is_open step rest) = is_open
 
-  to_open : {a b : Node} {nodes : List Node} → Walk Open Step a nodes b → Open b
-  to_open (here is_open) = is_open
-  to_open (on is_open step rest) = to_open rest
+  pub walk_last : {a b : Node} {nodes : List Node} → Walk Open Step a nodes b → Open b
+  walk_last (here is_open) = is_open
+  walk_last (on is_open step rest) = walk_last rest
 
 -- a shortest walk by nodes and steps, and by open starts and ends, that are told otherwise
 module _ {Node : Type 0} (Open Other : Node → Type 0) (Step Further : Node → Node → Type 0) (Start End First Last : Node → Type 0)
@@ -61,18 +61,18 @@ module _ {Node : Type 0} (Open Other : Node → Type 0) (Step Further : Node →
   shortest_as nodes is = record {
     from = is.from;
     to = is.to;
-    start = (starts is.from (from_open is.walk)).0 is.start;
-    is_end = (ends is.to (to_open is.walk)).0 is.is_end;
+    start = (starts is.from (walk_first is.walk)).0 is.start;
+    is_end = (ends is.to (walk_last is.walk)).0 is.is_end;
     walk = forth is.walk;
     least = λ a b others start end walk.
         let same = back walk in
-        is.least a b others ((starts a (from_open same)).1 start) ((ends b (to_open same)).1 end) same;
+        is.least a b others ((starts a (walk_first same)).1 start) ((ends b (walk_last same)).1 end) same;
   }
 
   pub none_as : NoWalk Open Step Start End → NoWalk Other Further First Last
   none_as none a b nodes start end walk =
       let same = back walk in
-      none a b nodes ((starts a (from_open same)).1 start) ((ends b (to_open same)).1 end) same
+      none a b nodes ((starts a (walk_first same)).1 start) ((ends b (walk_last same)).1 end) same
 
 module _ (grid : GridModel) (origin around : List SlotBox) (flat : FlatModel) (slots : List SlotAccess) (net : ℕ) where
   abbrev pub Admitted : ℕ → Type 0

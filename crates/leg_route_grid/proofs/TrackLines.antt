@@ -3,6 +3,7 @@ use Rattle.std.proofs.Common.{◌≡◌, ℕ, ◌+◌, ◌<◌, ◌⊎◌, ◌�
 use Rattle.std.proofs.lemmas.Int.{ints}
 use Rattle.std.proofs.lemmas.List.{take_more}
 use Rattle.std.proofs.lemmas.List.Elements.{Contains-append_left, Contains-push, Contains-push_cases}
+use Rattle.std.proofs.lemmas.Bool.{cases_order}
 use Rattle.leg_lib_records.specs.declared.records.Direction.{Direction}
 use Rattle.leg_lib_records.specs.Records.{LibraryModel}
 use Rattle.leg_design_records.specs.declared.records.Axis.{Axis}
@@ -40,14 +41,11 @@ one_line_more track before k values more has is = rw is (record {
     ]
     | inr same ↦ inr (record { j = k; below = omega arith; is = sym same })
   ];
-  lines = λ j below. by j below (order j k);
+  lines = λ j below. by j below (cases_order j k);
 }) where
-  order : (j k : ℕ) → (j < k) ⊎ ((j ≡ k) ⊎ (k < j))
-  order j k = grind arith
-
-  by : (j : ℕ) → j < k + 1 → (j < k) ⊎ ((j ≡ k) ⊎ (k < j)) → Contains (values ++ line_at track k ∷ []) (line_at track j)
-  by j below (inl less) = Contains-append_left values (line_at track k ∷ []) (line_at track j) (has.lines j less)
-  by j below (inr (inl same)) = rw same (Contains-push values (line_at track k))
+  by : (j : ℕ) → j < k + 1 → (j ≡ k) ⊎ ((j < k) ⊎ (k < j)) → Contains (values ++ line_at track k ∷ []) (line_at track j)
+  by j below (inl same) = rw same (Contains-push values (line_at track k))
+  by j below (inr (inl less)) = Contains-append_left values (line_at track k ∷ []) (line_at track j) (has.lines j less)
   by j below (inr (inr more)) = absurd (omega (arith, below, more))
 
 pub all_lines : (track : TrackModel) (before : List ℤ) (k : ℕ) (values : List ℤ) → HasLines track → k ≡ unsigned_abs track.count

@@ -9,7 +9,7 @@ use Rattle.leg_design_records.specs.Records.{DesignModel}
 use Rattle.leg_rules.specs.Metal.Outline.Outline.{Line}
 use Rattle.leg_rules.specs.Metal.Flat.{FlatModel}
 use Rattle.leg_rules.specs.declared.side.Side.{Side}
-use Rattle.leg_rules.specs.declared.side.Side.TheVariants.{West, East, South, North, Below, Above}
+use Rattle.leg_rules.specs.declared.side.Side.TheVariants.{West, East, South, North, Below}
 use Rattle.leg_route_search.specs.Steps.Side.{opposite}
 use Rattle.leg_rules.specs.declared.node.Node.{Node}
 use Rattle.leg_route_grid.specs.declared.slot.Slot.{Slot}
@@ -29,6 +29,7 @@ use Rattle.leg_route_grid.proofs.OpenNodes.{width_is}
 use Rattle.leg_route_grid.proofs.SlotSides.{beside_is}
 use Rattle.leg_route_grid.proofs.StepsAt.{ends_are_nodes}
 use Rattle.leg_route_grid.proofs.OpenSteps.{one_layer, open_at, stretch_east, stretch_north}
+use Rattle.leg_route_grid.proofs.Bounds.{turned_beside}
 
 -- how far the numbers of two slots are apart that lie beside one another
 south_apart : (k rows j i columns : ℕ) → (k * rows + (j + 1)) * columns + i ≡ (k * rows + j) * columns + i + columns
@@ -72,15 +73,6 @@ module _ (grid : GridModel) (is_grid : IsDesignGrid grid) (n m : ℕ) where
       rw (← above.next, ← above.same_row, ← above.same_column) step.a_is.slot.is in
       let apart = below_apart step.b_is.k (length grid.ys) step.b_is.j step.b_is.i (length grid.xs) in
       omega (arith, here, apart, step.b_is.slot.is)
-
--- what lies on one side has this on the side across
-pub swapped : (grid : GridModel) (side : Side) (n m : ℕ) → IsNeighbourAt grid side n m → IsNeighbourAt grid (opposite side) m n
-swapped grid West n m step = record { a = step.b; b = step.a; a_is = step.b_is; b_is = step.a_is; step = step.step }
-swapped grid East n m step = record { a = step.b; b = step.a; a_is = step.b_is; b_is = step.a_is; step = step.step }
-swapped grid South n m step = record { a = step.b; b = step.a; a_is = step.b_is; b_is = step.a_is; step = step.step }
-swapped grid North n m step = record { a = step.b; b = step.a; a_is = step.b_is; b_is = step.a_is; step = step.step }
-swapped grid Below n m step = record { a = step.b; b = step.a; a_is = step.b_is; b_is = step.a_is; step = step.step }
-swapped grid Above n m step = record { a = step.b; b = step.a; a_is = step.b_is; b_is = step.a_is; step = step.step }
 
 turned_in_line : (design : DesignModel) (a b : Node) → IsInLine design a b → IsInLine design b a
 turned_in_line design a b (inl (inl west)) = inl (inr west)
@@ -155,7 +147,7 @@ module _ (grid : GridModel) (is_grid : IsDesignGrid grid) (flat : FlatModel) (ne
   pub open_across : (side : Side) → IsSound grid.design.library → IsNeighbourAt grid side n m
       → IsOpenStepAt grid flat net (opposite side) m ↔ IsOpenStepAt grid flat net side n
   open_across side sound beside =
-      let across = swapped grid side n m beside in
+      let across = turned_beside grid side n m beside in
       let here = open_at grid is_grid side n m beside.a beside.b beside.a_is beside.b_is flat net beside in
       let there = open_at grid is_grid (opposite side) m n beside.b beside.a beside.b_is beside.a_is flat net across in (
         λ step. here.1 (step_turned grid.design flat net beside.b beside.a sound (there.0 step)),
@@ -190,12 +182,12 @@ module _ (grid : GridModel) (is_grid : IsDesignGrid grid) (flat : FlatModel) (ne
 module _ (grid : GridModel) (is_grid : IsDesignGrid grid) (sound : IsSound grid.design.library) (flat : FlatModel) (net n m : ℕ) where
   pub along_west : IsNeighbourAt grid West n m → IsOpenAlong grid flat net m ↔ IsOpenStepAt grid flat net West n
   along_west beside =
-      let east = along_east grid is_grid flat net m n (swapped grid West n m beside) in
+      let east = along_east grid is_grid flat net m n (turned_beside grid West n m beside) in
       let across = open_across grid is_grid flat net n m West sound beside in
       (λ along. across.0 (east.0 along), λ west. east.1 (across.1 west))
 
   pub along_south : IsNeighbourAt grid South n m → IsOpenAlong grid flat net m ↔ IsOpenStepAt grid flat net South n
   along_south beside =
-      let north = along_north grid is_grid flat net m n (swapped grid South n m beside) in
+      let north = along_north grid is_grid flat net m n (turned_beside grid South n m beside) in
       let across = open_across grid is_grid flat net n m South sound beside in
       (λ along. across.0 (north.0 along), λ south. north.1 (across.1 south))

@@ -5,12 +5,12 @@ use Rattle.std.proofs.lemmas.Bool.{cases_eq}
 use Rattle.std.proofs.lemmas.List.{take_more, length-replicate, get_or-replicate}
 use Rattle.std.proofs.lemmas.List.Elements.{Contains-append_left, Contains-push, Contains-push_cases}
 use Rattle.std.proofs.lemmas.Option.{slice_get_within, slice_get-get_or, get_or_from_slice_get}
+use Rattle.leg_lemmas.proofs.Places.{slice_set_here, slice_set_elsewhere}
 use Rattle.leg_design_records.specs.declared.records.Axis.{Axis}
 use Rattle.leg_design_records.specs.Records.{TrackModel, DesignModel}
 use Rattle.leg_route_grid.specs.Steps.Places.{ArePlaces}
 use Rattle.leg_route_grid.specs.Steps.Lines.{IsTrackAt, HaveMarked}
 use Rattle.leg_route_grid.specs.Steps.TrackMarks.{AreTrackMarks}
-use Rattle.leg_route_grid.proofs.ListEnds.{set_same, set_other}
 
 -- the mark of one value
 module _ (values : List ℤ) (value : ℤ) (first end : ℕ) (places : ArePlaces values value value first end) (marks : List Bool) where
@@ -44,11 +44,11 @@ module _ (values : List ℤ) (value : ℤ) (first end : ℕ) (places : ArePlaces
       each = λ i z there. elim (cases_eq i first) [
         | inl same ↦ (
           λ set. inr (value_at z (rw same at there)),
-          λ either. rw same (set_same marks first true (let within = places.within in omega (arith, within, some, count))),
+          λ either. rw same (slice_set_here marks first true (let within = places.within in omega (arith, within, some, count))),
         )
         | inr other ↦ (
-          λ set. inl (sym (set_other marks first i true other) ∙ set),
-          elim [ inl set ↦ set_other marks first i true other ∙ set | inr is ↦ absurd (other (at_first i (rw is at there))) ],
+          λ set. inl (sym (slice_set_elsewhere marks first i true other) ∙ set),
+          elim [ inl set ↦ slice_set_elsewhere marks first i true other ∙ set | inr is ↦ absurd (other (at_first i (rw is at there))) ],
         )
       ];
     }

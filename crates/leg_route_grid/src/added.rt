@@ -153,7 +153,7 @@ fn are_same_numbers(a: Option<u32>, b: Option<u32>) -> bool
 }
 
 /// Whether the rectangles are the same.
-#[tactic(auto, using(crate::proofs::SameShapes::sides_same))]
+#[tactic(auto, using(leg_geom::proofs::Points::sides_same))]
 fn are_same(a: &Rect, b: &Rect) -> bool
     ensures { IsTrue result ↔ a.now ≡ b.now }
 {

@@ -3,10 +3,10 @@ use Rattle.std.proofs.Common.{◌≡◌, ℕ, ◌<◌, List, [], ◌∷◌, ◌+
 use Rattle.std.proofs.lemmas.List.{length-set, length-replicate, append-nil, get_or-replicate}
 use Rattle.std.proofs.lemmas.List.Elements.{All-nil, All-cons, All-append}
 use Rattle.std.proofs.lemmas.Option.{slice_get-get_or, same_Some}
+use Rattle.leg_lemmas.proofs.Places.{set_here, set_elsewhere}
 use Rattle.leg_design_records.specs.declared.records.Wire.{Wire}
 use Rattle.leg_route_laws.specs.Growth.{AddedWire, of_net, wires_added}
 use Rattle.leg_route_laws.specs.Finished.{AreByNet}
-use Rattle.leg_route_laws.proofs.Places.{set_here, set_elsewhere}
 use Rattle.leg_route_laws.proofs.Growth.{same_number, added_then, added_of_net, added_of_other}
 
 abbrev IsBelow : ℕ → AddedWire → Type 0

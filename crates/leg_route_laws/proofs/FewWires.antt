@@ -2,6 +2,7 @@
 use Rattle.std.proofs.Common.{◌≡◌, ◌+◌, ◌<◌, ◌≤◌, ◌↔◌, ◌&&◌, ℕ, suc, Bool, true, false, not, IsTrue, List, [], ◌∷◌, ◌++◌, length, All, Option, None, Some, ap, ◌∙◌, subst, arith}
 use Rattle.std.proofs.lemmas.List.{length-append, length-map}
 use Rattle.std.proofs.lemmas.List.Elements.{All-cons, All-append, All-head, All-tail, All-weaker, All-contains}
+use Rattle.leg_lemmas.proofs.Places.{contains_at}
 use Rattle.leg_lib_records.specs.declared.joins.LayerUse.{LayerUse}
 use Rattle.leg_lib_records.specs.declared.joins.ViaPart.{ViaPart}
 use Rattle.leg_lib_records.specs.declared.records.Shape as cells
@@ -23,7 +24,6 @@ use Rattle.leg_rules.specs.Metal.Nets.{terminals_of, number_of_special, regular_
 use Rattle.leg_rules.specs.Metal.Metal.{Belonging, belonging, wire_outlines, via_outlines, wires_metal, nets_metal, special_metal, specials_metal, metal_parts, metal_of}
 use Rattle.leg_flat.proofs.Parts.{whole_length}
 use Rattle.leg_route_laws.specs.Finished.{finished}
-use Rattle.leg_route_laws.proofs.Places.{contains_at}
 
 abbrev pub GoodViasJoin : Type 0
 GoodViasJoin =

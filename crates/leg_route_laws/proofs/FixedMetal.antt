@@ -1,6 +1,8 @@
 -- The metal of components, of design pins and of blockages, which wires don't touch.
 use Rattle.std.proofs.Common.{◌≡◌, ℕ, suc, ◌+◌, List, [], ◌∷◌, ◌++◌, ◌⊎◌, inl, inr, Contains, length, slice_get, Option, None, Some, refl, sym, ap, subst}
 use Rattle.std.proofs.lemmas.List.Elements.{Contains-append_left, Contains-append_cases}
+use Rattle.leg_lemmas.proofs.Places.{comes_from}
+use Rattle.leg_lemmas.proofs.Contained.{Contains-nil}
 use Rattle.leg_geom.specs.declared.place.Place.{Place}
 use Rattle.leg_lib_records.specs.Measure.{ExtentModel}
 use Rattle.leg_lib_records.specs.Records as library
@@ -11,9 +13,8 @@ use Rattle.leg_design_records.specs.Records.{DesignModel, PinModel, NetModel}
 use Rattle.leg_rules.specs.declared.owner.Owner.TheVariants.{Net}
 use Rattle.leg_rules.specs.Metal.Nets.{terminals_of, regular_entry, entry_wires, number_of_special}
 use Rattle.leg_rules.specs.Metal.Metal.{OnLayer, Belonging, Metal, belonging, pins_metal, component_metal, components_metal, design_pins_metal, blockages_metal, wire_outlines, wires_metal, nets_metal, specials_metal, metal_of}
-use Rattle.leg_flat.proofs.Parts.{nothing_in, whole, by_part, whole_append}
+use Rattle.leg_flat.proofs.Parts.{whole, by_part, whole_append}
 use Rattle.leg_route_laws.specs.Finished.{finished}
-use Rattle.leg_route_laws.proofs.Places.{comes_from}
 use Rattle.leg_route_laws.proofs.NetMetal.{IsNet}
 use Rattle.leg_route_laws.proofs.SameNets.{same_belonging}
 
@@ -81,7 +82,7 @@ fixed_back design lists m fixed = subst (λ metal. Contains metal m) (same_fixed
 module _ (design : DesignModel) (m : Metal) where
   wires_own : (n piece : ℕ) (wires : List Wire) → Contains (wires_metal design n piece wires) m → IsNet m.belongs.owner
   unfolding wires_metal
-  wires_own n piece [] there = absurd (nothing_in m there)
+  wires_own n piece [] there = absurd (Contains-nil m there)
   wires_own n piece (wire ∷ wires) there = by (wires_own n (suc piece) wires) (Contains-append_cases one (wires_metal design n (suc piece) wires) m there) where
     belongs : Belonging
     belongs = record { owner = Net n; component = None; piece = Some piece }
@@ -98,7 +99,7 @@ module _ (design : DesignModel) (m : Metal) where
 
   nets_own : (n : ℕ) (nets : List NetModel) → Contains (nets_metal design n nets) m → IsNet m.belongs.owner
   unfolding nets_metal
-  nets_own n [] there = absurd (nothing_in m there)
+  nets_own n [] there = absurd (Contains-nil m there)
   nets_own n (net ∷ nets) there =
       elim (Contains-append_cases (wires_metal design n (length (terminals_of design n)) net.wires) (nets_metal design (suc n) nets) m there) [
         | inl here ↦ wires_own n (length (terminals_of design n)) net.wires here
@@ -107,7 +108,7 @@ module _ (design : DesignModel) (m : Metal) where
 
   specials_own : (k : ℕ) (nets : List NetModel) → Contains (specials_metal design k nets) m → IsNet m.belongs.owner
   unfolding specials_metal
-  specials_own k [] there = absurd (nothing_in m there)
+  specials_own k [] there = absurd (Contains-nil m there)
   specials_own k (net ∷ nets) there = by (specials_own (suc k) nets) (number_of_special design k net) there where
     by : (Contains (specials_metal design (suc k) nets) m → IsNet m.belongs.owner) → (n : ℕ)
         → Contains (wires_metal design n (length (terminals_of design n) + length (entry_wires (regular_entry design n))) net.wires ++ specials_metal design

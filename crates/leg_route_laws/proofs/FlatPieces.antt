@@ -2,11 +2,12 @@
 use Rattle.std.proofs.Common.{◌≡◌, ℕ, ◌+◌, ◌<◌, List, length, Some, slice_get, sym, ap, ◌∙◌, refl}
 use Rattle.std.specs.List.{range_with_len}
 use Rattle.std.proofs.lemmas.Option.{slice_get-map}
+use Rattle.leg_lemmas.proofs.Places.{counted, mapped_at}
 use Rattle.leg_design_records.specs.Records.{DesignModel}
 use Rattle.leg_rules.specs.declared.piece.Piece.{Piece}
 use Rattle.leg_rules.specs.Metal.Nets.{pieces_of}
 use Rattle.leg_rules.specs.Metal.Flat.{FlatModel, IsFlatOf}
-use Rattle.leg_route_laws.proofs.PiecesWith.{counted, mapped_at, numbered_is}
+use Rattle.leg_route_laws.proofs.PiecesWith.{numbered_is}
 
 module _ (design : DesignModel) (flat : FlatModel) (is : IsFlatOf design flat) where
   abbrev entries : ℕ

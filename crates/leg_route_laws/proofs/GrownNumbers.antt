@@ -5,7 +5,9 @@ use Rattle.std.proofs.lemmas.List.{length-append}
 use Rattle.std.proofs.lemmas.List.FromFn.{length-range_with_len, get_or-range_with_len}
 use Rattle.std.proofs.lemmas.List.Elements.{Contains-append_left, Contains-append_right, Contains-append_cases}
 use Rattle.std.proofs.lemmas.Option.{slice_get_within, none-some}
-use Rattle.leg_sweep.proofs.Lists.{AllPairs-append_by, All-from_contains}
+use Rattle.leg_lemmas.proofs.Places.{get_first, get_second, get_cases, contains_at, comes_from, InSecond}
+use Rattle.leg_lemmas.proofs.Contained.{All-from_contains}
+use Rattle.leg_lemmas.proofs.Rising.{AllPairs-append_by}
 use Rattle.leg_design_records.specs.declared.records.Wire.{Wire}
 use Rattle.leg_design_records.specs.Records.{DesignModel}
 use Rattle.leg_rules.specs.declared.owner.Owner.TheVariants.{Net}
@@ -14,7 +16,6 @@ use Rattle.leg_rules.specs.Metal.Metal.{OnLayer, Belonging, Metal, wire_outlines
 use Rattle.leg_rules.specs.Metal.Flat.{FlatModel, IsShapeOf}
 use Rattle.leg_wire.specs.NetShapes.{IsOfNet, AreNumbersOf}
 use Rattle.leg_route_laws.specs.Growth.{Grows, of_net, IsMetalAdded}
-use Rattle.leg_route_laws.proofs.Places.{get_first, get_second, InSecond, get_cases, contains_at, comes_from}
 use Rattle.leg_route_laws.proofs.Growth.{same_number, has_grown, added_of_other}
 use Rattle.leg_route_laws.proofs.LikeShapes.{same_net}
 

@@ -4,7 +4,8 @@ use Rattle.std.proofs.lemmas.Bool.Decides.{nat_tests}
 use Rattle.std.proofs.lemmas.List.{length-append, length-map, length-set, append_assoc, append-nil}
 use Rattle.std.proofs.lemmas.List.Elements.{Contains-append_left, Contains-append_right, Contains-append_cases}
 use Rattle.std.proofs.lemmas.Option.{same_Some, none-some}
-use Rattle.leg_lib_records.specs.Scale.{OneForOne}
+use Rattle.leg_lemmas.proofs.Places.{set_here, set_elsewhere}
+use Rattle.leg_lib_records.proofs.OneEach.{same_length}
 use Rattle.leg_design_records.specs.declared.records.Terminal.{Terminal}
 use Rattle.leg_design_records.specs.declared.records.Wire.{Wire}
 use Rattle.leg_design_records.specs.Records.{DesignModel}
@@ -12,14 +13,8 @@ use Rattle.leg_rules.specs.Metal.Metal.{Metal, wire_outlines}
 use Rattle.leg_rules.specs.Metal.Flat.{FlatModel, IsShapeOf, pieces_with}
 use Rattle.leg_rules.specs.Metal.MoreWires.{wire_metal, HasOneMoreWire}
 use Rattle.leg_route_laws.specs.Growth.{AddedWire, Grows, of_net, wires_added, IsMetalAdded, HasGrown}
-use Rattle.leg_route_laws.proofs.Places.{set_here, set_elsewhere, has_like, is_like}
+use Rattle.leg_route_laws.proofs.Places.{has_like, is_like}
 use Rattle.leg_route_laws.proofs.PiecesWith.{same_terminals, same_wires}
-
-pub same_length : {X Y : Type 0} (R : X → Y → Type 0) (xs : List X) (ys : List Y) → OneForOne R xs ys → length xs ≡ length ys
-same_length R [] [] each = refl
-same_length R [] (y ∷ ys) each = absurd each
-same_length R (x ∷ xs) [] each = absurd each
-same_length R (x ∷ xs) (y ∷ ys) each = ap suc (same_length R xs ys each.1)
 
 pub metal_count : (design : DesignModel) (net k : ℕ) (wire : Wire) → length (wire_metal design net k wire) ≡ length (wire_outlines design wire)
 metal_count design net k wire = length-map (wire_outlines design wire) _

@@ -4,6 +4,8 @@ use Rattle.std.proofs.lemmas.Bool.{cases_lt}
 use Rattle.std.proofs.lemmas.List.{length-append}
 use Rattle.std.proofs.lemmas.List.Elements.{Contains-append_left, Contains-append_right, Contains-append_cases}
 use Rattle.std.proofs.lemmas.Option.{slice_get_within, none-some}
+use Rattle.leg_lemmas.proofs.Contained.{Contains-map}
+use Rattle.leg_lemmas.proofs.Places.{comes_from}
 use Rattle.leg_design_records.specs.declared.records.Wire as records
 use Rattle.leg_design_records.specs.Records.{DesignModel}
 use Rattle.leg_rules.specs.declared.owner.Owner.{Owner}
@@ -17,7 +19,7 @@ use Rattle.leg_rules.specs.Metal.Pieces.{piece_component, of_piece}
 use Rattle.leg_rules.specs.Metal.Flat.{FlatModel, IsShapeOf, pieces_with}
 use Rattle.leg_route_laws.specs.Growth.{AddedWire, wires_added, IsMetalAdded, HasGrown}
 use Rattle.leg_route_laws.specs.Finished.{finished, IsFinishedFrom}
-use Rattle.leg_route_laws.proofs.Places.{has_like, is_like, comes_from, goes_to}
+use Rattle.leg_route_laws.proofs.Places.{has_like, is_like}
 use Rattle.leg_route_laws.proofs.PiecesWith.{same_terminals, same_wires}
 use Rattle.leg_route_laws.proofs.Growth.{has_grown}
 use Rattle.leg_route_laws.proofs.FixedMetal.{IsFixed, fixed_there, fixed_back, fixed_or_wire, from_fixed}
@@ -183,7 +185,7 @@ module _ (metal_has : MetalHasItsPiece) (piece_has : PieceHasItsMetal) (design :
             terminals = terminals_of design n;
             wires = length (wires_of design n);
             had = pieces_at design from.flat from.is_flat n (omega (arith, within)) ∙ ap Some (pieces_are design n);
-            of_wire = goes_to (λ (o : OnLayer). record { metal = o; belongs = wire_belongs n g }) (wire_outlines design new.wire) drawn.metal new.draws;
+            of_wire = Contains-map (λ (o : OnLayer). record { metal = o; belongs = wire_belongs n g }) (wire_outlines design new.wire) drawn.metal new.draws;
           } in
           let s = growth.all metal added_metal in
           let moves : MovesIn design added n g d = inr (inr (record {

@@ -1,7 +1,9 @@
 -- The points of a line over several points are those of the lines between them.
-use Rattle.std.proofs.Common.{◌≡◌, ◌≢◌, ◌⊎◌, inl, inr, ℤ, pos, ◌+ℤ◌, ◌-ℤ◌, ◌≤ℤ◌, ◌<ℤ◌, Bool, true, false, int_lt, List, [], ◌∷◌, refl, subst, ◌∙◌, arith}
+use Rattle.std.proofs.Common.{◌≡◌, ◌≢◌, ◌⊎◌, inl, inr, ℤ, pos, ◌+ℤ◌, ◌-ℤ◌, ◌≤ℤ◌, ◌<ℤ◌, List, [], ◌∷◌, refl, subst, ◌∙◌, arith}
 use Rattle.std.proofs.lemmas.Int.{ints}
+use Rattle.leg_lemmas.proofs.Integers.{cases_lt_z}
 use Rattle.leg_geom.specs.Plane.{PointModel}
+use Rattle.leg_geom.proofs.Points.{same_point}
 use Rattle.leg_rules.specs.Metal.Outline.{beyond, IsAlong, IsAcross, HasPointOf}
 use Rattle.leg_route_laws.specs.Lines.{EachStep, last_spot, AreInLine, line_outline}
 
@@ -10,14 +12,8 @@ data IsNear (reach a b z : ℤ) : Type 0 where
   up : (a -ℤ reach) ≤ℤ z → z ≤ℤ (b +ℤ reach) → IsNear reach a b z
   down : (b -ℤ reach) ≤ℤ z → z ≤ℤ (a +ℤ reach) → IsNear reach a b z
 
-pub either : (a b : ℤ) → (a <ℤ b) ⊎ (b ≤ℤ a)
-either a b = by (int_lt a b) refl where
-  by : (less : Bool) → int_lt a b ≡ less → (a <ℤ b) ⊎ (b ≤ℤ a)
-  by true less = inl (grind (arith, ints, less))
-  by false less = inr (grind (arith, ints, less))
-
 near_from_along : (reach a b z : ℤ) → a ≢ b → IsAlong a b reach reach z → IsNear reach a b z
-near_from_along reach a b z differ along = by (either a b) where
+near_from_along reach a b z differ along = by (cases_lt_z a b) where
   from : beyond a b z ≤ℤ reach
   from = along.from
 
@@ -26,28 +22,28 @@ near_from_along reach a b z differ along = by (either a b) where
 
   by : (a <ℤ b) ⊎ (b ≤ℤ a) → IsNear reach a b z
   by (inl less) = up (grind (arith, ints, from, to)) (grind (arith, ints, from, to))
-  by (inr more) = by_other (either b a) where
+  by (inr more) = by_other (cases_lt_z b a) where
     by_other : (b <ℤ a) ⊎ (a ≤ℤ b) → IsNear reach a b z
     by_other (inl less) = down (grind (arith, ints, from, to)) (grind (arith, ints, from, to))
     by_other (inr same) = absurd (differ (grind (arith, ints)))
 
 along_from_near : (reach a b z : ℤ) → pos 0 ≤ℤ reach → IsNear reach a b z → IsAlong a b reach reach z
-along_from_near reach a b z some (up low high) = by (either a b) where
+along_from_near reach a b z some (up low high) = by (cases_lt_z a b) where
   by : (a <ℤ b) ⊎ (b ≤ℤ a) → IsAlong a b reach reach z
   by (inl less) = record { from = grind (arith, ints); to = grind (arith, ints) }
   by (inr more) = record { from = grind (arith, ints); to = grind (arith, ints) }
-along_from_near reach a b z some (down low high) = by (either a b) where
+along_from_near reach a b z some (down low high) = by (cases_lt_z a b) where
   by : (a <ℤ b) ⊎ (b ≤ℤ a) → IsAlong a b reach reach z
   by (inl less) = record { from = grind (arith, ints); to = grind (arith, ints) }
   by (inr more) = record { from = grind (arith, ints); to = grind (arith, ints) }
 
 -- what is near two numbers is near the first and any third one, or near this and the second
 near_split : (reach a b c z : ℤ) → pos 0 ≤ℤ reach → IsNear reach a c z → IsNear reach a b z ⊎ IsNear reach b c z
-near_split reach a b c z some (up low high) = by (either (b +ℤ reach) z) where
+near_split reach a b c z some (up low high) = by (cases_lt_z (b +ℤ reach) z) where
   by : ((b +ℤ reach) <ℤ z) ⊎ (z ≤ℤ (b +ℤ reach)) → IsNear reach a b z ⊎ IsNear reach b c z
   by (inl past) = inr (up (omega (arith, ints)) high)
   by (inr within) = inl (up low within)
-near_split reach a b c z some (down low high) = by (either z (b -ℤ reach)) where
+near_split reach a b c z some (down low high) = by (cases_lt_z z (b -ℤ reach)) where
   by : (z <ℤ (b -ℤ reach)) ⊎ ((b -ℤ reach) ≤ℤ z) → IsNear reach a b z ⊎ IsNear reach b c z
   by (inl past) = inr (down low (omega (arith, ints)))
   by (inr within) = inl (down within high)
@@ -70,11 +66,6 @@ last_level from (to ∷ spots) each = each.0 ∙ last_level to spots each.1
 last_upright : (from : PointModel) (spots : List PointModel) → EachStep IsUpright from spots → from.x ≡ (last_spot from spots).x
 last_upright from [] each = refl
 last_upright from (to ∷ spots) each = each.0 ∙ last_upright to spots each.1
-
-pub same_spot : (a b : PointModel) → a.x ≡ b.x → a.y ≡ b.y → a ≡ b
-same_spot a b x y = by a.x a.y x y where
-  by : (u v : ℤ) → u ≡ b.x → v ≡ b.y → record { x = u; y = v } ≡ b
-  by u v e f = rw (e, f) refl
 
 module _ (width reach : ℤ) (some : pos 0 ≤ℤ reach) (p : PointModel) where
   abbrev HasIt : PointModel → PointModel → Type 0
@@ -105,12 +96,12 @@ module _ (width reach : ℤ) (some : pos 0 ≤ℤ reach) (p : PointModel) where
   some_step from (to ∷ spots) (inl level) differ has = by has where
     by : HasIt from (last_spot to spots) → SomeStep HasIt from (to ∷ spots)
     by (inl flat) =
-        let apart : from.x ≢ (last_spot to spots).x = λ same. differ (same_spot from (last_spot to spots) same flat.level) in
+        let apart : from.x ≢ (last_spot to spots).x = λ same. differ (same_point from (last_spot to spots) same flat.level) in
         level_steps from to spots level (near_from_along reach from.x (last_spot to spots).x p.x apart flat.along) flat.across
-    by (inr tall) = absurd (differ (same_spot from (last_spot to spots) tall.upright (last_level from (to ∷ spots) level)))
+    by (inr tall) = absurd (differ (same_point from (last_spot to spots) tall.upright (last_level from (to ∷ spots) level)))
   some_step from (to ∷ spots) (inr upright) differ has = by has where
     by : HasIt from (last_spot to spots) → SomeStep HasIt from (to ∷ spots)
-    by (inl flat) = absurd (differ (same_spot from (last_spot to spots) (last_upright from (to ∷ spots) upright) flat.level))
+    by (inl flat) = absurd (differ (same_point from (last_spot to spots) (last_upright from (to ∷ spots) upright) flat.level))
     by (inr tall) =
-        let apart : from.y ≢ (last_spot to spots).y = λ same. differ (same_spot from (last_spot to spots) tall.upright same) in
+        let apart : from.y ≢ (last_spot to spots).y = λ same. differ (same_point from (last_spot to spots) tall.upright same) in
         upright_steps from to spots upright (near_from_along reach from.y (last_spot to spots).y p.y apart tall.along) tall.across

@@ -1,12 +1,13 @@
 -- A line between two different points, side by side or one above the other, is a rectangle, where its width is even.
 use Rattle.std.proofs.Common.{◌≡◌, ◌≢◌, ◌⊎◌, inl, inr, ℤ, ◌+ℤ◌, ◌-ℤ◌, ◌≤ℤ◌, ◌<ℤ◌, arith}
 use Rattle.std.proofs.lemmas.Int.{ints}
+use Rattle.leg_lemmas.proofs.Integers.{cases_lt_z}
 use Rattle.leg_geom.specs.Plane.{PointModel, RectModel}
+use Rattle.leg_geom.proofs.Points.{same_point}
 use Rattle.leg_lib_records.specs.Scale.{IsEven}
 use Rattle.leg_rules.specs.Metal.Outline.{IsAlong, IsAcross}
 use Rattle.leg_route_laws.specs.CleanWire.{IsRectOf}
 use Rattle.leg_route_laws.specs.Lines.{line_outline}
-use Rattle.leg_route_laws.proofs.LinePoints.{either, same_spot}
 
 -- the numbers of an interval are those along a line, or across one
 record RunsAlong (reach a b low high : ℤ) : Type 0 where
@@ -39,7 +40,7 @@ ends_down reach a b less = record {
 }
 
 ends : (reach a b : ℤ) → a ≢ b → HasEnds reach a b
-ends reach a b differ = by (either a b) (either b a) where
+ends reach a b differ = by (cases_lt_z a b) (cases_lt_z b a) where
   by : (a <ℤ b) ⊎ (b ≤ℤ a) → (b <ℤ a) ⊎ (a ≤ℤ b) → HasEnds reach a b
   by (inl less) other = ends_up reach a b less
   by (inr more) (inl less) = ends_down reach a b less
@@ -55,7 +56,7 @@ module _ (width reach : ℤ) (even : IsEven width) (a b : PointModel) (differ : 
   level_rect : a.y ≡ b.y → (rect : RectModel) × IsRectOf (line_outline width reach a b) rect
   level_rect level =
       let half = even.0 in
-      let x = ends reach a.x b.x (λ same. differ (same_spot a b same level)) in (
+      let x = ends reach a.x b.x (λ same. differ (same_point a b same level)) in (
         record { x1 = x.low; y1 = a.y -ℤ half; x2 = x.high; y2 = a.y +ℤ half },
         λ p. (
           λ inside. inl (record {
@@ -68,7 +69,7 @@ module _ (width reach : ℤ) (even : IsEven width) (a b : PointModel) (differ : 
                 let along = x.along.back p.x flat.along in
                 let across = across_back a.y width half p.y even.1 flat.across in
                 record { left = along.0; right = along.1; bottom = across.0; top = across.1 }
-            | inr tall ↦ absurd (differ (same_spot a b tall.upright level))
+            | inr tall ↦ absurd (differ (same_point a b tall.upright level))
           ],
         ),
       )
@@ -76,7 +77,7 @@ module _ (width reach : ℤ) (even : IsEven width) (a b : PointModel) (differ : 
   upright_rect : a.x ≡ b.x → (rect : RectModel) × IsRectOf (line_outline width reach a b) rect
   upright_rect upright =
       let half = even.0 in
-      let y = ends reach a.y b.y (λ same. differ (same_spot a b upright same)) in (
+      let y = ends reach a.y b.y (λ same. differ (same_point a b upright same)) in (
         record { x1 = a.x -ℤ half; y1 = y.low; x2 = a.x +ℤ half; y2 = y.high },
         λ p. (
           λ inside. inr (record {
@@ -85,7 +86,7 @@ module _ (width reach : ℤ) (even : IsEven width) (a b : PointModel) (differ : 
             across = across_there a.x width half p.x even.1 inside.left inside.right;
           }),
           λ has. elim has [
-            | inl flat ↦ absurd (differ (same_spot a b upright flat.level))
+            | inl flat ↦ absurd (differ (same_point a b upright flat.level))
             | inr tall ↦
                 let along = y.along.back p.y tall.along in
                 let across = across_back a.x width half p.x even.1 tall.across in

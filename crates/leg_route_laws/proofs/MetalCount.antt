@@ -4,6 +4,7 @@ use Rattle.std.proofs.lemmas.Bool.{cases_order}
 use Rattle.std.proofs.lemmas.List.{length-append}
 use Rattle.std.proofs.lemmas.List.Elements.{All-head, All-tail}
 use Rattle.std.proofs.lemmas.Option.{same_Some}
+use Rattle.leg_lib_records.proofs.OneEach.{same_length}
 use Rattle.leg_design_records.specs.declared.records.Wire.{Wire}
 use Rattle.leg_design_records.specs.MoreWires.{each_with, with_more_wires}
 use Rattle.leg_design_records.specs.Records.{DesignModel, NetModel}
@@ -13,7 +14,7 @@ use Rattle.leg_rules.specs.Metal.Flat.{FlatModel, IsShapeOf, IsFlatOf}
 use Rattle.leg_flat.proofs.Parts.{whole, whole_length}
 use Rattle.leg_route_laws.specs.Growth.{AddedWire, Grows, wires_added, shapes_added}
 use Rattle.leg_route_laws.specs.Finished.{finished, AreByNet}
-use Rattle.leg_route_laws.proofs.Growth.{same_length, same_number, metal_count, added_here, added_elsewhere, has_grown}
+use Rattle.leg_route_laws.proofs.Growth.{same_number, metal_count, added_here, added_elsewhere, has_grown}
 use Rattle.leg_route_laws.proofs.SameNets.{same_outlines}
 use Rattle.leg_route_laws.proofs.FixedMetal.{fixed_metal, wire_parts, fixed_and_wires, same_fixed}
 

@@ -2,6 +2,7 @@
 use Rattle.std.proofs.Common.{◌≡◌, ℕ, ◌+◌, List, ◌++◌, length, Contains, None, Some, slice_get, ◌⊎◌, inl, inr, sym, ap, subst, ◌∙◌, refl, arith}
 use Rattle.std.proofs.lemmas.List.{length-append}
 use Rattle.std.proofs.lemmas.Option.{slice_get_within}
+use Rattle.leg_lemmas.proofs.Places.{get_first, get_second, get_cases, InSecond}
 use Rattle.leg_design_records.specs.declared.records.Terminal.{Terminal}
 use Rattle.leg_design_records.specs.declared.records.Terminal.TheVariants.{Comp, Pin}
 use Rattle.leg_design_records.specs.declared.records.Wire as records
@@ -13,7 +14,6 @@ use Rattle.leg_rules.specs.Metal.Metal.{OnLayer, wire_outlines}
 use Rattle.leg_rules.specs.Metal.Pieces.{IsOfTerminal, IsMetalOfPiece, piece_component}
 use Rattle.leg_route_laws.specs.Growth.{AddedWire, wires_added}
 use Rattle.leg_route_laws.specs.Finished.{finished, AreByNet}
-use Rattle.leg_route_laws.proofs.Places.{get_first, get_second, InSecond, get_cases}
 use Rattle.leg_route_laws.proofs.PiecesWith.{terminal_at, wire_at, IsTerminalAt, IsWireAt, piece_cases}
 use Rattle.leg_route_laws.proofs.SameNets.{same_terminals, same_outlines}
 use Rattle.leg_route_laws.proofs.NetMetal.{pieces_are}

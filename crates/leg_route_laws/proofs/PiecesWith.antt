@@ -1,26 +1,18 @@
 -- Pieces that are terminals and then wires.
-use Rattle.std.proofs.Common.{◌≡◌, ℕ, zero, suc, ◌+◌, ◌<◌, List, [], ◌∷◌, length, map, Some, slice_get, ◌⊎◌, inl, inr, refl, sym, ap, subst, ◌∙◌, zero-add, arith}
+use Rattle.std.proofs.Common.{◌≡◌, ℕ, ◌+◌, ◌<◌, List, [], ◌∷◌, length, map, Some, slice_get, ◌⊎◌, inl, inr, refl, sym, ap, ◌∙◌, arith}
 use Rattle.std.specs.List.{range_with_len}
-use Rattle.std.proofs.lemmas.List.{length-map, length-append}
-use Rattle.std.proofs.lemmas.List.FromFn.{length-map-range_with_len, length-range_with_len, get_or-range_with_len}
-use Rattle.std.proofs.lemmas.Option.{slice_get_within, slice_get-map, slice_get-get_or, same_Some, none-some}
+use Rattle.std.proofs.lemmas.List.{length-map}
+use Rattle.std.proofs.lemmas.List.FromFn.{length-range_with_len}
+use Rattle.std.proofs.lemmas.Option.{slice_get_within, slice_get-map, same_Some}
+use Rattle.leg_lemmas.proofs.Places.{get_first, get_second, get_cases, counted, mapped_at, InSecond}
 use Rattle.leg_design_records.specs.declared.records.Terminal.{Terminal}
 use Rattle.leg_rules.specs.declared.piece.Piece.{Piece}
 use Rattle.leg_rules.specs.declared.piece.Piece.TheVariants.{Term, Wire}
 use Rattle.leg_rules.specs.Metal.Flat.{pieces_with}
-use Rattle.leg_route_laws.proofs.Places.{get_first, get_second, InSecond, get_cases}
+use Rattle.leg_flat.proofs.LastPiece.{length_of_pieces, terminal_no_wire}
 
 abbrev numbered : ℕ → List Piece
 numbered wires = map Wire (range_with_len 0 wires)
-
-pub length_of_pieces : (terminals : List Terminal) (wires : ℕ) → length (pieces_with terminals wires) ≡ length terminals + wires
-length_of_pieces terminals wires =
-    omega (arith, length-append (map Term terminals) (numbered wires), length-map terminals Term, length-map-range_with_len Wire 0 wires)
-
-pub counted : (n k : ℕ) → k < n → slice_get (range_with_len 0 n) k ≡ Some k
-counted n k less =
-    slice_get-get_or (range_with_len 0 n) k 0 (omega (arith, length-range_with_len 0 n, less))
-    ∙ ap Some (get_or-range_with_len 0 n k 0 less ∙ zero-add k)
 
 -- which piece is a terminal, and which a wire
 pub terminal_at : (terminals : List Terminal) (wires k : ℕ) (t : Terminal) → slice_get terminals k ≡ Some t
@@ -48,11 +40,6 @@ pub record IsWireAt (terminals : List Terminal) (wires k : ℕ) (piece : Piece) 
   pub place : k ≡ length terminals + j
   pub less : j < wires
 
-pub mapped_at : {X Y : Type 0} (f : X → Y) (xs : List X) (k : ℕ) (y : Y) → slice_get (map f xs) k ≡ Some y → (x : X) × (slice_get xs k ≡ Some x) × (y ≡ f x)
-mapped_at f [] k y at = absurd (none-some y at)
-mapped_at f (x ∷ xs) zero y at = (x, refl, sym (same_Some (f x) y at))
-mapped_at f (x ∷ xs) (suc k) y at = mapped_at f xs k y at
-
 pub numbered_is : (n k j : ℕ) → slice_get (range_with_len 0 n) k ≡ Some j → (k < n) × (j ≡ k)
 numbered_is n k j at =
     let less : k < n = omega (arith, slice_get_within (range_with_len 0 n) k j at, length-range_with_len 0 n) in
@@ -76,14 +63,6 @@ piece_cases terminals wires k piece at = by (get_cases (map Term terminals) (num
         less = number.0;
       })
 
--- a terminal is no wire
-differ : (terminal : Terminal) (n : ℕ) → ¬ (Term terminal ≡ Wire n)
-differ terminal n same = subst holds same tt
-  where
-    holds : Piece → Type 0
-    holds (Term t) = Unit {0}
-    holds (Wire m) = ⊥
-
 terminal_of : Terminal → Piece → Terminal
 terminal_of default (Term t) = t
 terminal_of default (Wire n) = default
@@ -99,7 +78,7 @@ no_terminal : (wires : ℕ) (t : Terminal) (pieces : List Piece) → ¬ (numbere
 no_terminal wires t pieces same =
     let at : slice_get (numbered wires) 0 ≡ Some (Term t) = ap (λ zs. slice_get zs 0) same in
     let from = mapped_at Wire (range_with_len 0 wires) 0 (Term t) at in
-    differ t from.0 from.2
+    terminal_no_wire t from.0 from.2
 
 -- pieces tell the terminals and the wires
 pub same_terminals : (ts us : List Terminal) (v w : ℕ) → pieces_with ts v ≡ pieces_with us w → ts ≡ us

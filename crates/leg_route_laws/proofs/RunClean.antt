@@ -1,8 +1,11 @@
 -- A line over several points is clean where the lines between them are, and so are the squares at its ends.
 use Rattle.std.proofs.Common.{◌≡◌, ◌≢◌, ◌⊎◌, inl, inr, ℕ, ℤ, pos, ◌+ℤ◌, ◌-ℤ◌, ◌≤ℤ◌, ◌<ℤ◌, List, [], ◌∷◌, subst, sym, ap, refl, arith}
 use Rattle.std.proofs.lemmas.Int.{ints}
+use Rattle.leg_lemmas.proofs.Integers.{cases_lt_z}
+use Rattle.leg_lemmas.proofs.Places.{the_only, contains_only}
 use Rattle.leg_geom.specs.Plane.{PointModel, RectModel}
 use Rattle.leg_geom.specs.Orientation.{moved, ComesFrom}
+use Rattle.leg_geom.proofs.Points.{same_point}
 use Rattle.leg_lib_records.specs.Scale.{IsEven}
 use Rattle.leg_design_records.specs.Records.{DesignModel}
 use Rattle.leg_design_records.specs.declared.records.Wire.TheVariants.{Segment, Patch}
@@ -14,21 +17,20 @@ use Rattle.leg_rules.specs.Spacing.Clean.{IsClean}
 use Rattle.leg_route_laws.specs.CleanWire.{IsRectOf, IsCleanWire, HasCleanRect, LiesInClean}
 use Rattle.leg_rules.specs.Route.StepWires.{square}
 use Rattle.leg_route_laws.specs.Lines.{EachStep, last_spot, AreInLine, line_outline}
-use Rattle.leg_route_laws.proofs.Places.{the_only, contains_only}
 use Rattle.leg_route_laws.proofs.CleanCover.{covered, clean_wire}
-use Rattle.leg_route_laws.proofs.LinePoints.{either, SomeStep, same_spot, some_step}
+use Rattle.leg_route_laws.proofs.LinePoints.{SomeStep, some_step}
 use Rattle.leg_route_laws.proofs.LineRects.{line_rect}
 
 -- what lies about an end of a line lies along it
 along_first : (reach a b z : ℤ) → a ≢ b → (a -ℤ reach) ≤ℤ z → z ≤ℤ (a +ℤ reach) → IsAlong a b reach reach z
-along_first reach a b z differ above below = by (either a b) (either b a) where
+along_first reach a b z differ above below = by (cases_lt_z a b) (cases_lt_z b a) where
   by : (a <ℤ b) ⊎ (b ≤ℤ a) → (b <ℤ a) ⊎ (a ≤ℤ b) → IsAlong a b reach reach z
   by (inl less) other = record { from = grind (arith, ints); to = grind (arith, ints) }
   by (inr more) (inl less) = record { from = grind (arith, ints); to = grind (arith, ints) }
   by (inr more) (inr same) = absurd (differ (grind (arith, ints)))
 
 along_last : (reach a b z : ℤ) → a ≢ b → (b -ℤ reach) ≤ℤ z → z ≤ℤ (b +ℤ reach) → IsAlong a b reach reach z
-along_last reach a b z differ above below = by (either a b) (either b a) where
+along_last reach a b z differ above below = by (cases_lt_z a b) (cases_lt_z b a) where
   by : (a <ℤ b) ⊎ (b ≤ℤ a) → (b <ℤ a) ⊎ (a ≤ℤ b) → IsAlong a b reach reach z
   by (inl less) other = record { from = grind (arith, ints); to = grind (arith, ints) }
   by (inr more) (inl less) = record { from = grind (arith, ints); to = grind (arith, ints) }
@@ -120,14 +122,14 @@ module _ (reach : ℤ) (a b : PointModel) (differ : a ≢ b) (p : PointModel) wh
       let m = moved_about reach a p q in
       inl (record {
         level = level;
-        along = along_first reach a.x b.x p.x (λ same. differ (same_spot a b same level)) m.left m.right;
+        along = along_first reach a.x b.x p.x (λ same. differ (same_point a b same level)) m.left m.right;
         across = across_middle reach a.y p.y m.bottom m.top;
       })
   from_first (inr upright) q =
       let m = moved_about reach a p q in
       inr (record {
         upright = upright;
-        along = along_first reach a.y b.y p.y (λ same. differ (same_spot a b upright same)) m.bottom m.top;
+        along = along_first reach a.y b.y p.y (λ same. differ (same_point a b upright same)) m.bottom m.top;
         across = across_middle reach a.x p.x m.left m.right;
       })
 
@@ -136,14 +138,14 @@ module _ (reach : ℤ) (a b : PointModel) (differ : a ≢ b) (p : PointModel) wh
       let m = moved_about reach b p q in
       inl (record {
         level = level;
-        along = along_last reach a.x b.x p.x (λ same. differ (same_spot a b same level)) m.left m.right;
+        along = along_last reach a.x b.x p.x (λ same. differ (same_point a b same level)) m.left m.right;
         across = subst (λ y. IsAcross y (reach +ℤ reach) p.y) (sym level) (across_middle reach b.y p.y m.bottom m.top);
       })
   from_last (inr upright) q =
       let m = moved_about reach b p q in
       inr (record {
         upright = upright;
-        along = along_last reach a.y b.y p.y (λ same. differ (same_spot a b upright same)) m.bottom m.top;
+        along = along_last reach a.y b.y p.y (λ same. differ (same_point a b upright same)) m.bottom m.top;
         across = subst (λ x. IsAcross x (reach +ℤ reach) p.x) (sym upright) (across_middle reach b.x p.x m.left m.right);
       })
 

@@ -1,5 +1,5 @@
 -- A design of which nets got wires has the same terminals, owners and pieces of terminals.
-use Rattle.std.proofs.Common.{◌≡◌, ℕ, zero, suc, List, [], ◌∷◌, ◌++◌, length, map, get_or, slice_get, Option, None, Some, option_map, if◌then◌else◌, refl, sym, ap, ◌∙◌}
+use Rattle.std.proofs.Common.{◌≡◌, ℕ, zero, suc, List, [], ◌∷◌, ◌++◌, length, get_or, slice_get, Option, None, Some, option_map, if◌then◌else◌, refl, sym, ap, ◌∙◌}
 use Rattle.std.proofs.lemmas.List.{append-nil}
 use Rattle.leg_lex.specs.Words.{◌>>=◌}
 use Rattle.leg_design_records.specs.declared.records.Terminal.{Terminal}
@@ -9,6 +9,7 @@ use Rattle.leg_design_records.specs.declared.records.Wire.TheVariants.{Segment, 
 use Rattle.leg_design_records.specs.MoreWires.{each_with, with_more_wires}
 use Rattle.leg_design_records.specs.Records.{DesignModel, NetModel, net_names}
 use Rattle.leg_design_records.specs.Terminals.{is_among}
+use Rattle.leg_design_records.proofs.EachWith.{each_with_length, each_with_map}
 use Rattle.leg_rules.specs.Metal.Nets.{number_of_special, special_entry, regular_entry, entry_terminals, terminals_of}
 use Rattle.leg_rules.specs.Metal.Owner.{listing_place, net_of, lone_owner, owner_of, place_among, piece_of}
 use Rattle.leg_rules.specs.Metal.Metal.{of_terminal, wire_outlines}
@@ -19,20 +20,6 @@ wired net wires = record net { wires = net.wires ++ wires }
 
 wired_none : (net : NetModel) → wired net [] ≡ net
 wired_none net = ap (λ wires. record net { wires = wires }) (append-nil net.wires)
-
--- what wires don't touch stays
-each_map : {X Y Z : Type 0} (f : X → Y → X) (g : X → Z) → ((x : X) (y : Y) → g (f x y) ≡ g x) → (xs : List X) (ys : List Y)
-    → map g (each_with f xs ys) ≡ map g xs
-unfolding each_with
-each_map f g same [] ys = refl
-each_map f g same (x ∷ xs) [] = refl
-each_map f g same (x ∷ xs) (y ∷ ys) = rw (same x y, each_map f g same xs ys) refl
-
-each_length : {X Y : Type 0} (f : X → Y → X) (xs : List X) (ys : List Y) → length (each_with f xs ys) ≡ length xs
-unfolding each_with
-each_length f [] ys = refl
-each_length f (x ∷ xs) [] = refl
-each_length f (x ∷ xs) (y ∷ ys) = ap suc (each_length f xs ys)
 
 -- an entry has the wires of its list
 not_wired : (nets : List NetModel) (n : ℕ) → slice_get nets n ≡ option_map (λ net. wired net []) (slice_get nets n)
@@ -62,10 +49,10 @@ module _ (design : DesignModel) (lists : List (List Wire)) where
   done = finished design lists
 
   pub same_names : net_names done.nets ≡ net_names design.nets
-  same_names = each_map wired (λ (net : NetModel). net.name) (λ net wires. refl) design.nets lists
+  same_names = each_with_map wired (λ (net : NetModel). net.name) (λ net wires. refl) design.nets lists
 
   pub same_count : length done.nets ≡ length design.nets
-  same_count = each_length wired design.nets lists
+  same_count = each_with_length wired design.nets lists
 
   pub same_number : (k : ℕ) (net : NetModel) → number_of_special done k net ≡ number_of_special design k net
   same_number k net = rw (same_names, same_count) refl

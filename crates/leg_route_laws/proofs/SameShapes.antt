@@ -1,5 +1,6 @@
 -- Flats whose shapes are alike but for pieces and order have the same shorts and shapes too near one another.
 use Rattle.std.proofs.Common.{◌≡◌, ◌↔◌, ℕ, List, Contains, slice_get, sym, ap, ◌∙◌}
+use Rattle.leg_lemmas.proofs.Places.{contains_at}
 use Rattle.leg_geom.specs.Plane.{PointModel, HasPoint}
 use Rattle.leg_lib_records.specs.Records.{LibraryModel}
 use Rattle.leg_design_records.specs.declared.fault.Fault.TheVariants.{Short, TooNear}
@@ -9,7 +10,6 @@ use Rattle.leg_rules.specs.Spacing.Comparable.{AreComparable}
 use Rattle.leg_rules.specs.Spacing.Violations.{AreShort, AreTooNear, IsSpacingViolation}
 use Rattle.leg_rules.specs.Spacing.Violations.IsSpacingViolation.{short, too_near}
 use Rattle.leg_route_laws.specs.Violations.{HasShort, HasTooNear}
-use Rattle.leg_route_laws.proofs.Places.{contains_at}
 use Rattle.leg_route_laws.proofs.StillClean.{short_back, near_back, pair_of}
 
 -- two shapes are alike: all but the piece, and the rectangle point by point

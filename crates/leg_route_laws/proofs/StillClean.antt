@@ -3,6 +3,7 @@ use Rattle.std.proofs.Common.{◌≡◌, ℕ, ◌<◌, List, ◌++◌, ◌⊎◌
 use Rattle.std.proofs.lemmas.Bool.{cases_order}
 use Rattle.std.proofs.lemmas.Option.{same_Some}
 use Rattle.std.proofs.lemmas.List.Elements.{Contains-append_cases}
+use Rattle.leg_lemmas.proofs.Places.{place_of_contained, contains_at, HasPlace}
 use Rattle.leg_geom.proofs.Gaps.{SharePoint-symmetric, square_distance-symmetric}
 use Rattle.leg_geom.specs.Pairs.{IsPair}
 use Rattle.leg_lib_records.specs.Records.{LibraryModel}
@@ -15,7 +16,6 @@ use Rattle.leg_rules.specs.Spacing.Violations.{AreShort, AreTooNear}
 use Rattle.leg_rules.specs.Spacing.Violations.IsSpacingViolation.{short, too_near}
 use Rattle.leg_rules.specs.Spacing.Clean.{net_metal, IsClean}
 use Rattle.leg_route_laws.specs.CleanWire.{HasNoSpacingFault}
-use Rattle.leg_route_laws.proofs.Places.{Stands, stands, contains_at}
 
 pub comparable_back : (a b : Shape) → AreComparable a b → AreComparable b a
 comparable_back a b h = record {
@@ -50,11 +50,11 @@ AllAreClear library shapes = (a b : Shape) → Contains shapes a → Contains sh
 module _ (R : Shape → Shape → Type 0) (back : (a b : Shape) → R a b → R b a) (apart : (a b : Shape) → R a b → AreComparable a b) where
   pub pair_of : (shapes : List Shape) (a b : Shape) → Contains shapes a → Contains shapes b → R a b → (i : ℕ) × (j : ℕ) × IsPair R shapes (i, j)
   pair_of shapes a b a_there b_there holds = by (cases_order first.k second.k) where
-    first : Stands shapes a
-    first = stands shapes a a_there
+    first : HasPlace shapes a
+    first = place_of_contained shapes a a_there
 
-    second : Stands shapes b
-    second = stands shapes b b_there
+    second : HasPlace shapes b
+    second = place_of_contained shapes b b_there
 
     by : (first.k ≡ second.k) ⊎ ((first.k < second.k) ⊎ (second.k < first.k)) → (i : ℕ) × (j : ℕ) × IsPair R shapes (i, j)
     by (inl same) =

@@ -2,6 +2,7 @@
 use Rattle.std.proofs.Common.{◌≡◌, ℕ, ◌+◌, List, [], ◌∷◌, ◌++◌, length, ◌⊎◌, inl, inr, None, Some, slice_get, Contains, All, refl, sym, ap, subst, ◌∙◌}
 use Rattle.std.proofs.lemmas.Option.{none-some}
 use Rattle.std.proofs.lemmas.List.Elements.{All-contains, All-cons, All-nil}
+use Rattle.leg_lemmas.proofs.Places.{contains_at, comes_from}
 use Rattle.leg_design_records.specs.declared.records.Wire.{Wire}
 use Rattle.leg_design_records.specs.Records.{DesignModel}
 use Rattle.leg_rules.specs.declared.owner.Owner.TheVariants.{Net}
@@ -12,7 +13,6 @@ use Rattle.leg_rules.specs.Metal.MoreWires.{wire_metal, HasOneMoreWire}
 use Rattle.leg_rules.specs.Spacing.Clean.{IsClean}
 use Rattle.leg_route_laws.specs.Growth.{Grows, of_net, wires_added, IsMetalAdded}
 use Rattle.leg_route_laws.specs.CleanWire.{HasNoSpacingFault, IsCleanWire}
-use Rattle.leg_route_laws.proofs.Places.{contains_at, comes_from}
 use Rattle.leg_route_laws.proofs.StillClean.{AllAreClear, clear_from_no_fault, no_fault_from_clear, clear_more}
 use Rattle.leg_route_laws.proofs.Growth.{same_number, has_grown, added_of_net, added_of_other}
 

@@ -1,10 +1,10 @@
 -- Counts of pairs of a list, which do not hang on the list's order where the test is symmetric.
-use Rattle.std.proofs.Common.{◌≡◌, ℕ, ◌+◌, ◌*◌, ◌≤◌, Bool, true, false, ◌&&◌, cond, List, [], ◌∷◌, ◌++◌, length, map, sum_by, count_by, Contains, IsPermutation, inl, inr, refl, ap, arith}
-use Rattle.std.proofs.lemmas.Bool.{cases_Bool, both_ways}
+use Rattle.std.proofs.Common.{◌≡◌, ℕ, ◌+◌, ◌*◌, ◌≤◌, Bool, true, cond, List, [], ◌∷◌, ◌++◌, length, map, sum_by, count_by, Contains, IsPermutation, inl, inr, refl, ap, arith}
+use Rattle.std.proofs.lemmas.Bool.{cases_Bool}
 use Rattle.std.proofs.lemmas.List.Sums.{count_by-le-length, sum_by-cons, sum_by_push, sum_by-le-sum_by}
 use Rattle.std.proofs.lemmas.List.Sorted.{sum_by-IsPermutation}
+use Rattle.leg_lemmas.proofs.Contained.{Contains-here, Contains-there}
 use Rattle.leg_sweep.specs.Counts.{count_pairs}
-use Rattle.leg_sweep.proofs.Lists.{Contains-here, Contains-there}
 
 -- sums of equal terms are equal
 sum_by_same : {X : Type 0} (f g : X → ℕ) → ((x : X) → f x ≡ g x) → (xs : List X) → sum_by f xs ≡ sum_by g xs
@@ -67,11 +67,6 @@ module _ {X : Type 0} (test : X → X → Bool) (symmetric : (a b : X) → test 
       let outer = sum_by-IsPermutation (λ a. count_by (test a) xs) xs ys moved in
       let itself = sum_by-IsPermutation (λ a. cond (test a a) 1 0) xs ys moved in
       omega (arith, inner, outer, itself, all_with_all xs, all_with_all ys)
-
--- two tests that both pass
-pub and_split : (a b : Bool) → (a && b) ≡ true → (a ≡ true) × (b ≡ true)
-and_split true b passes = (refl, passes)
-and_split false b passes = absurd (both_ways false refl passes)
 
 -- no more pass a test than another one that passes whatever it does
 pub count_by-le : {X : Type 0} (p q : X → Bool) (xs : List X) → ((x : X) → Contains xs x → p x ≡ true → q x ≡ true) → count_by p xs ≤ count_by q xs

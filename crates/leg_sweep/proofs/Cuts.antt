@@ -1,10 +1,12 @@
 -- Rectangles cut at a line, right of which none begins: the gaps of two of them stay.
-use Rattle.std.proofs.Common.{◌≡◌, ℤ, pos, ◌+ℤ◌, ◌-ℤ◌, ◌≤ℤ◌, ◌<ℤ◌, unsigned_abs, FitsSigned, w64, to_z, of_z, Option, None, Some, refl, ◌∙◌, arith}
+use Rattle.std.proofs.Common.{◌≡◌, ℤ, pos, ◌+ℤ◌, ◌-ℤ◌, ◌≤ℤ◌, ◌<ℤ◌, unsigned_abs, FitsSigned, w64, to_z, of_z, Option, Some, ◌∙◌, arith}
 use Rattle.std.specs.Option.{SomeIff, IsSome}
 use Rattle.std.specs.Int.{int_max, int_min}
 use Rattle.std.proofs.lemmas.Int.{ints, int_max_is, int_min_is, to_z-of_z, by_lt_z}
+use Rattle.leg_lemmas.proofs.Options.{there_where, value_there}
 use Rattle.leg_geom.specs.Plane.{RectModel, IsCoordinate, IsRect}
 use Rattle.leg_geom.specs.Gap.{gap_between, x_gap}
+use Rattle.leg_geom.proofs.Points.{sides}
 use Rattle.leg_sweep.specs.Steps.Cut.{cut_at}
 
 -- a gap from what begins at the line tells where it ends
@@ -65,22 +67,6 @@ cut_proper line a is left limit =
     let x2 = is.x2 in
     record { x1 = is.x1; y1 = is.y1; x2 = end_within line a.x1 a.x2 x1 x2 limit wide; y2 = is.y2; wide = end_wide line a.x1 a.x2; high = is.high }
 
--- a coordinate is kept by a register
-pub kept : (z v : ℤ) → z ≡ v → IsCoordinate v → to_z w64 (of_z w64 z) ≡ v
-kept z v e near = grind (arith, ints, to_z-of_z)
-
--- what is made exactly where a fact holds
-pub is_made : {T : Type 0} (o : Option T) (P : Type 0) (v : T) → SomeIff o P v → P → IsSome o
-is_made None P v made holds = absurd (made holds)
-is_made (Some x) P v made holds = refl
-
-pub made_is : {T : Type 0} (o : Option T) (P : Type 0) (v x : T) → SomeIff o P v → o ≡ Some x → x ≡ v
-made_is None P v x made is = absurd (let e : ⊥ = cc in e)
-made_is (Some y) P v x made is = let same : y ≡ x = cc in rw (← same) made.1
-
-abbrev sides : ℤ → ℤ → ℤ → ℤ → RectModel
-sides x1 y1 x2 y2 = record { x1 = x1; y1 = y1; x2 = x2; y2 = y2 }
-
 same_sides : (x1 y1 x2 y2 : ℤ) (v : RectModel) → x1 ≡ v.x1 → y1 ≡ v.y1 → x2 ≡ v.x2 → y2 ≡ v.y2 → sides x1 y1 x2 y2 ≡ v
 same_sides x1 y1 x2 y2 v a b c d = λ i. record { x1 = a i; y1 = b i; x2 = c i; y2 = d i }
 
@@ -89,11 +75,11 @@ pub sides_made : (o : Option RectModel) (x1 y1 x2 y2 : ℤ) (v : RectModel) → 
     → SomeIff o (IsRect (sides x1 y1 x2 y2)) (sides x1 y1 x2 y2) → IsSome o
 sides_made o x1 y1 x2 y2 v a b c d proper made =
     let same = same_sides x1 y1 x2 y2 v a b c d in
-    is_made o (IsRect (sides x1 y1 x2 y2)) (sides x1 y1 x2 y2) made (rw same proper)
+    there_where o (IsRect (sides x1 y1 x2 y2)) (sides x1 y1 x2 y2) made (rw same proper)
 
 pub sides_are : (o : Option RectModel) (x1 y1 x2 y2 : ℤ) (v x : RectModel) → x1 ≡ v.x1 → y1 ≡ v.y1 → x2 ≡ v.x2 → y2 ≡ v.y2
     → SomeIff o (IsRect (sides x1 y1 x2 y2)) (sides x1 y1 x2 y2) → o ≡ Some x → x ≡ v
-sides_are o x1 y1 x2 y2 v x a b c d made is = made_is o (IsRect (sides x1 y1 x2 y2)) (sides x1 y1 x2 y2) x made is ∙ same_sides x1 y1 x2 y2 v a b c d
+sides_are o x1 y1 x2 y2 v x a b c d made is = value_there o (IsRect (sides x1 y1 x2 y2)) (sides x1 y1 x2 y2) x made is ∙ same_sides x1 y1 x2 y2 v a b c d
 
 -- the right edge that a gap tells
 pub edge_told : (right left edge gap : ℤ) (rect other : RectModel) → left ≡ rect.x1 → edge ≡ other.x1 → gap ≡ pos (x_gap rect other) → IsRect rect

@@ -6,13 +6,13 @@ use Rattle.std.proofs.lemmas.List.{length-append, take_more}
 use Rattle.std.proofs.lemmas.List.Elements.{All-nil, All-append, All-weaker, Contains-append_left, Contains-append_right}
 use Rattle.std.proofs.lemmas.List.FromFn.{length-range_with_len, get_or-range_with_len}
 use Rattle.std.proofs.lemmas.Option.{slice_get_cases, slice_get_within}
+use Rattle.leg_lemmas.proofs.Rising.{AllPairs-nil, AllPairs-append_by}
 use Rattle.leg_sweep.specs.Pairs.{TakesAll, TookPairs}
 use Rattle.leg_geom.specs.Pairs.{IsPair}
 use Rattle.leg_sweep.specs.Pairs.TakesAll.{none}
 use Rattle.leg_sweep.specs.Counts.{count_pairs}
 use Rattle.leg_sweep.specs.Steps.Sweep.{ordered, AreNewPairs}
 use Rattle.leg_sweep.proofs.Counts.{count_pairs_push}
-use Rattle.leg_sweep.proofs.Lists.{AllPairs-nil, AllPairs-append_by}
 use Rattle.leg_sweep.proofs.SinkPairs.{takes_append}
 use Rattle.leg_sweep.proofs.Turns.{ordered_below}
 

@@ -2,10 +2,12 @@
 use Rattle.std.proofs.Common.{◌≡◌, ◌≢◌, ℕ, ◌+◌, ◌-◌, ◌<◌, ◌≤◌, Bool, true, leb, List, [], ◌++◌, length, get_or, take, map, count_by, Some, slice_get, AllPairs, Contains, inl, inr, refl, sym, ap, subst, ◌∙◌, arith}
 use Rattle.std.specs.Cmp.Derive.{both_true}
 use Rattle.std.specs.Option.{option_map}
-use Rattle.std.proofs.lemmas.Bool.{cases_lt, cases_eq, leb-true, le-leb}
+use Rattle.std.proofs.lemmas.Bool.{cases_lt, cases_eq, leb-true, le-leb, and_parts}
 use Rattle.std.proofs.lemmas.List.{length-append, length-map, length-take-le}
 use Rattle.std.proofs.lemmas.List.Elements.{All-nil}
 use Rattle.std.proofs.lemmas.Option.{slice_get-map, slice_get_within, get_or_from_slice_get}
+use Rattle.leg_lemmas.proofs.Contained.{Contains-nil, All-from_contains}
+use Rattle.leg_lemmas.proofs.Rising.{AllPairs-nil}
 use Rattle.leg_geom.specs.Plane.{RectModel}
 use Rattle.leg_geom.specs.Gap.{x_gap}
 use Rattle.leg_sweep.specs.declared.band.Stretch.{Stretch}
@@ -15,8 +17,7 @@ use Rattle.leg_sweep.specs.Pairs.TakesAll.{none}
 use Rattle.leg_sweep.specs.Counts.{near_along_x, near_along_both}
 use Rattle.leg_sweep.specs.Steps.Bands.{Waiting, waiting_at, stretch_at, reach_at, share_band, near_in_band, near_both_in_band, met, AreStretches, AreEmpty, AreVisited, CanVisit}
 use Rattle.leg_sweep.specs.Steps.Sweep.{unit_square, rect_numbered, test_at, ordered, AreInReach, CanMeet, IsLeftToRight, AreNewPairs}
-use Rattle.leg_sweep.proofs.Counts.{and_split, length_of_all}
-use Rattle.leg_sweep.proofs.Lists.{Contains-nil, All-from_contains, AllPairs-nil}
+use Rattle.leg_sweep.proofs.Counts.{length_of_all}
 use Rattle.leg_sweep.proofs.MetItems.{begun_in, passing_in, visited_by, are_met, met_apart, count_by-le_within}
 use Rattle.leg_sweep.proofs.Places.{order_below, order_differs, order_between}
 use Rattle.leg_sweep.proofs.Progress.{place_in_front, place_of, numbers_contain}
@@ -42,7 +43,7 @@ last_at stretches x = (stretch_at stretches x).last
 pub shared : (stretches : List Stretch) (x y : ℕ) → share_band stretches x y ≡ true
     → (first_at stretches x ≤ last_at stretches y) × (first_at stretches y ≤ last_at stretches x)
 shared stretches x y share =
-    let both = and_split (leb (first_at stretches x) (last_at stretches y)) (leb (first_at stretches y) (last_at stretches x)) share in
+    let both = and_parts (leb (first_at stretches x) (last_at stretches y)) (leb (first_at stretches y) (last_at stretches x)) share in
     (leb-true _ _ both.0, leb-true _ _ both.1)
 
 pub shares : (stretches : List Stretch) (x y : ℕ) → first_at stretches x ≤ last_at stretches y → first_at stretches y ≤ last_at stretches x
@@ -67,7 +68,7 @@ reaches_after narrow first last new before after visited k =
 -- what near items are
 pub near_split : (rects : List RectModel) (stretches : List Stretch) (start : List Waiting) (x y : ℕ) → near_in_band rects stretches start x y ≡ true
     → (share_band stretches x y ≡ true) × (test_at (near_along_x (reach_at stretches start x)) rects x y ≡ true)
-near_split rects stretches start x y is_near = and_split (share_band stretches x y) (test_at (near_along_x (reach_at stretches start x)) rects x y) is_near
+near_split rects stretches start x y is_near = and_parts (share_band stretches x y) (test_at (near_along_x (reach_at stretches start x)) rects x y) is_near
 
 module _ {Item : Type 0} (Holds : Item → Item → Type 0) (symmetric : (a b : Item) → Holds a b → Holds b a)
     (rect_of : Item → RectModel) (items : List Item) (stretches : List Stretch) (start : List Waiting)

@@ -6,14 +6,15 @@ use Rattle.std.proofs.lemmas.Bool.{eq-eqb}
 use Rattle.std.proofs.lemmas.List.{length-map}
 use Rattle.std.proofs.lemmas.List.Elements.{All-contains}
 use Rattle.std.proofs.lemmas.List.Sums.{get_or-le-sum_by, sum_by-take-le}
-use Rattle.std.proofs.lemmas.Option.{slice_get-map, slice_get_within, slice_get_cases, get_or_from_slice_get}
+use Rattle.std.proofs.lemmas.Option.{slice_get-map, slice_get_cases, get_or_from_slice_get}
+use Rattle.leg_lemmas.proofs.Places.{contains_at}
+use Rattle.leg_lemmas.proofs.Contained.{All-from_contains}
 use Rattle.leg_geom.specs.Plane.{RectModel, IsRect}
 use Rattle.leg_sweep.specs.declared.band.Stretch.{Stretch}
 use Rattle.leg_sweep.specs.declared.grid.LayerSpan.{LayerSpan}
 use Rattle.leg_sweep.specs.declared.grid.LayerBands.{LayerBands}
 use Rattle.leg_sweep.specs.Steps.Bands.{stretch_at, entries_at}
 use Rattle.leg_sweep.specs.Steps.Grid.{height_of, rect_height, span_at, bands_at, AreSpans, IsGrid, BeginsIn, stretch_in}
-use Rattle.leg_sweep.proofs.Lists.{All-from_contains}
 use Rattle.leg_sweep.proofs.GridHeights.{quotient_rises, height_rises, bands_taken}
 use Rattle.leg_sweep.proofs.GridSums.{on_layer, sum_by-map, sum_by_places, sum_thrice, layer_thrice}
 use Rattle.leg_sweep.proofs.GridBands.{bands_within}
@@ -56,10 +57,6 @@ pub record IsPlaced {Item : Type 0} (layer_of : Item → ℕ) (items : List Item
   pub got : slice_get items x ≡ Some item
   pub within : layer_of item < length grid
   pub among : IsAmong (bands_at grid (layer_of item)) stretch
-
--- a list contains an item that has a number
-pub has_item : {Item : Type 0} (items : List Item) (x : ℕ) (a : Item) → slice_get items x ≡ Some a → Contains items a
-has_item items x a got = (x, slice_get_within items x a got, get_or_from_slice_get items x a a got)
 
 module _ {Item : Type 0} (rect_of : Item → RectModel) (layer_of : Item → ℕ) (reach_of : ℕ → ℕ) (layers : ℕ) (items : List Item) (spans : List LayerSpan)
     (grid : List LayerBands)
@@ -134,7 +131,7 @@ module _ {Item : Type 0} (rect_of : Item → RectModel) (layer_of : Item → ℕ
           | inl there ↦
               let a : Item = there.0 in
               let got : slice_get items x ≡ Some a = there.2 in
-              let has = has_item items x a got in
+              let has = contains_at items x a got in
               record {
                 item = a;
                 got = got;

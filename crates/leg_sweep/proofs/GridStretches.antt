@@ -1,9 +1,9 @@
 -- Two items for which the rule holds stand in a common band, and those on different layers don't.
-use Rattle.std.proofs.Common.{◌≡◌, ℕ, ◌+◌, ◌-◌, ◌*◌, ◌^◌, ◌<◌, ◌≤◌, min, true, leb, List, length, get_or, map, Some, slice_get, Contains, inl, inr, ap, sym, ◌∙◌, arith}
+use Rattle.std.proofs.Common.{◌≡◌, ℕ, ◌+◌, ◌-◌, ◌*◌, ◌^◌, ◌<◌, ◌≤◌, min, true, leb, List, length, map, Some, slice_get, Contains, inl, inr, ap, sym, ◌∙◌, arith}
 use Rattle.std.proofs.lemmas.Bool.{cases_order, and_parts, leb-true}
 use Rattle.std.proofs.lemmas.List.{length-map}
-use Rattle.std.proofs.lemmas.Option.{same_Some, slice_get-map, slice_get_within, get_or_from_slice_get}
-use Rattle.std.specs.Option.{option_map}
+use Rattle.std.proofs.lemmas.Option.{same_Some, slice_get_within}
+use Rattle.leg_lemmas.proofs.Places.{contains_at, get_or_mapped}
 use Rattle.leg_geom.specs.declared.limits.TheConstants.{COORDINATE_LIMIT}
 use Rattle.leg_geom.specs.Plane.{RectModel, IsRect}
 use Rattle.leg_geom.specs.Gap.{x_gap, y_gap}
@@ -16,7 +16,7 @@ use Rattle.leg_sweep.specs.Steps.Grid.{height_of, bands_at, AreSpans, IsGrid, Be
 use Rattle.leg_sweep.proofs.Nearness.{y_gap_symmetric}
 use Rattle.leg_sweep.proofs.GridHeights.{quotient_rises, height_within}
 use Rattle.leg_sweep.proofs.GridBands.{bands_rise}
-use Rattle.leg_sweep.proofs.GridPlaces.{IsPlaced, layer_within, proper_of, begins_at, stretch_is, has_item, many_stretches, placed}
+use Rattle.leg_sweep.proofs.GridPlaces.{IsPlaced, layer_within, proper_of, begins_at, stretch_is, many_stretches, placed}
 
 -- a rectangle begins in no higher band than another one within the reach ends
 stretches_meet : (bands : LayerBands) (a b : RectModel) (reach : ℕ) → IsRect a → IsRect b → BeginsIn bands b → bands.reach ≡ min reach (2 * COORDINATE_LIMIT)
@@ -60,9 +60,6 @@ module _ {Item : Type 0} (rect_of : Item → RectModel) (layer_of : Item → ℕ
   own_reach : (x : ℕ) (p : IsPlaced layer_of items grid x (stretch_at stretches x)) → reach_at stretches bands x ≡ reach_of (layer_of p.item)
   own_reach x p = band_reach x (stretch_at stretches x).first p (omega arith) (omega (arith, p.among.up))
 
-  layer_read : (x : ℕ) (a : Item) → slice_get items x ≡ Some a → get_or (map layer_of items) x 0 ≡ layer_of a
-  layer_read x a got = get_or_from_slice_get (map layer_of items) x (layer_of a) 0 (slice_get-map layer_of items x ∙ ap (λ o. option_map layer_of o) got)
-
   -- an item on a lower layer than another one stands in lower bands
   layers_apart : (x y : ℕ) (p : IsPlaced layer_of items grid x (stretch_at stretches x)) (q : IsPlaced layer_of items grid y (stretch_at stretches y))
       → layer_of p.item < layer_of q.item
@@ -96,10 +93,10 @@ module _ {Item : Type 0} (rect_of : Item → RectModel) (layer_of : Item → ℕ
     apart = λ x y x_in y_in share.
         let p = stretch_placed x (omega (arith, length-map items layer_of, x_in)) in
         let q = stretch_placed y (omega (arith, length-map items layer_of, y_in)) in
-        layer_read x p.item p.got ∙ same_layer x y p q share ∙ sym (layer_read y q.item q.got);
+        get_or_mapped layer_of items x p.item 0 p.got ∙ same_layer x y p q share ∙ sym (get_or_mapped layer_of items y q.item 0 q.got);
     reach = λ x x_in.
         let p = stretch_placed x (omega (arith, length-map items layer_of, x_in)) in
-        own_reach x p ∙ ap reach_of (sym (layer_read x p.item p.got));
+        own_reach x p ∙ ap reach_of (sym (get_or_mapped layer_of items x p.item 0 p.got));
   }
 
   module _ (Holds : Item → Item → Type 0) (layered : (a b : Item) → Holds a b → layer_of a ≡ layer_of b)
@@ -111,8 +108,8 @@ module _ {Item : Type 0} (rect_of : Item → RectModel) (layer_of : Item → ℕ
     pair_meets p pair =
         let a : Item = pair.a in
         let b : Item = pair.b in
-        let a_has = has_item items p.0 a pair.a_at in
-        let b_has = has_item items p.1 b pair.b_at in
+        let a_has = contains_at items p.0 a pair.a_at in
+        let b_has = contains_at items p.1 b pair.b_at in
         let a_is : IsRect (rect_of a) = item_proper a a_has in
         let b_is : IsRect (rect_of b) = item_proper b b_has in
         let same : layer_of a ≡ layer_of b = layered a b pair.holds in

@@ -4,6 +4,7 @@ use Rattle.std.proofs.lemmas.Bool.{cases_lt}
 use Rattle.std.proofs.lemmas.List.{take-append-le, take-take, take_all, length-take-le, get_or-take}
 use Rattle.std.proofs.lemmas.List.Concat.{flat_map-append}
 use Rattle.std.proofs.lemmas.List.Elements.{All-nil, All-cons, All-append, All-weaker, All-from_get_or, Contains-append_left, Contains-append_right}
+use Rattle.leg_lemmas.proofs.Rising.{AllPairs-append}
 use Rattle.leg_geom.specs.Plane.{RectModel, IsRect}
 use Rattle.leg_sweep.specs.declared.bin_index.Cut.{Cut}
 use Rattle.leg_sweep.specs.declared.bounds.Bounds.{Bounds}
@@ -14,7 +15,6 @@ use Rattle.leg_sweep.specs.Steps.Bounds.{bounds_around, IsWithin}
 use Rattle.leg_sweep.specs.NearNumbers.{number_in, numbers_of}
 use Rattle.leg_sweep.specs.Steps.Nodes.{HasBoundsOf, IsRightAt, IsRight, AreNodesFrom}
 use Rattle.leg_sweep.specs.Steps.Index.{IsCut, IsIndex}
-use Rattle.leg_sweep.proofs.Lists.{AllPairs-append}
 use Rattle.leg_sweep.proofs.NearNodes.{forest_append}
 
 -- an element keeps its place where others come behind

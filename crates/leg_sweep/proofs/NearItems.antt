@@ -3,7 +3,7 @@ use Rattle.std.proofs.Common.{◌≡◌, ◌≢◌, ℕ, zero, suc, ◌+◌, ◌
 use Rattle.std.specs.Cmp.Derive.{both_true}
 use Rattle.std.specs.List.{range_with_len, IsDistinct}
 use Rattle.std.specs.Option.{option_map}
-use Rattle.std.proofs.lemmas.Bool.{eqb-true, eqb-false, ne_eqb, eq-eqb, lt-ltb, ltb-true, le-leb}
+use Rattle.std.proofs.lemmas.Bool.{eqb-true, eqb-false, ne_eqb, eq-eqb, lt-ltb, ltb-true, le-leb, and_parts}
 use Rattle.std.proofs.lemmas.Cmp.{nat_eq_equiv}
 use Rattle.std.proofs.lemmas.List.{get_or-map, get_or_read, length-map}
 use Rattle.std.proofs.lemmas.List.Elements.{All-contains, All-weaker}
@@ -13,6 +13,8 @@ use Rattle.std.proofs.lemmas.List.Sorted.{Contains-permutation, IsPermutation-sy
 use Rattle.std.proofs.lemmas.List.Sums.{sum_by_more, sum_by_push}
 use Rattle.std.proofs.lemmas.Map.Keys.{IsDistinct-from_apart, apart_from_distinct, IsDistinct-IsPermutation}
 use Rattle.std.proofs.lemmas.Option.{slice_get-map, slice_get_cases, slice_get_within, get_or_from_slice_get, same_Some}
+use Rattle.leg_lemmas.proofs.Places.{contains_at, get_or_mapped}
+use Rattle.leg_lemmas.proofs.Contained.{All-from_contains}
 use Rattle.leg_geom.specs.Plane.{RectModel, IsRect}
 use Rattle.leg_geom.specs.Gap.{x_gap, y_gap}
 use Rattle.leg_sweep.specs.declared.node.Node.{Node}
@@ -24,11 +26,9 @@ use Rattle.leg_sweep.specs.Steps.Cut.{cut_at, left_edge_at, AreCut}
 use Rattle.leg_sweep.specs.Steps.Layers.{is_on, numbers_on, AreNodesByLayer}
 use Rattle.leg_sweep.specs.Steps.Nodes.{AreNodesOf}
 use Rattle.leg_sweep.specs.Steps.Sweep.{unit_square, rect_numbered, ordered, AreInReach, CanMeet, IsLeftToRight, AreNewPairs}
-use Rattle.leg_sweep.proofs.Counts.{and_split, count_pairs-le, length_of_all}
+use Rattle.leg_sweep.proofs.Counts.{count_pairs-le, length_of_all}
 use Rattle.leg_sweep.proofs.Cuts.{x_gap_kept}
 use Rattle.leg_sweep.proofs.FewPairs.{numbers_more, number_below, below_number}
-use Rattle.leg_sweep.proofs.GridPlaces.{has_item}
-use Rattle.leg_sweep.proofs.Lists.{All-from_contains}
 use Rattle.leg_sweep.proofs.MetItems.{count_by-le_within}
 use Rattle.leg_sweep.proofs.NearNodes.{near_is, is_near_passes}
 use Rattle.leg_sweep.proofs.Nearness.{x_gap_symmetric, y_gap_symmetric}
@@ -109,14 +109,11 @@ module _ {Item : Type 0} (Holds : Item → Item → Type 0) (rect_of : Item → 
   rect_is : rect_numbered rects n ≡ cut_at cut.line (rect_of b)
   rect_is = get_or_from_slice_get rects n (cut_at cut.line (rect_of b)) unit_square (rect_at n b b_at)
 
-  layer_at : (x : ℕ) (a : Item) → slice_get items x ≡ Some a → get_or (map layer_of items) x 0 ≡ layer_of a
-  layer_at x a got = get_or_from_slice_get (map layer_of items) x (layer_of a) 0 (slice_get-map layer_of items x ∙ ap (λ o. option_map layer_of o) got)
-
   proper_at : (x : ℕ) (a : Item) → slice_get items x ≡ Some a → IsRect (rect_of a)
-  proper_at x a got = All-contains (λ c. IsRect (rect_of c)) items a cut.proper (has_item items x a got)
+  proper_at x a got = All-contains (λ c. IsRect (rect_of c)) items a cut.proper (contains_at items x a got)
 
   left_at : (x : ℕ) (a : Item) → slice_get items x ≡ Some a → (rect_of a).x1 ≤ℤ cut.line
-  left_at x a got = All-contains (λ c. (rect_of c).x1 ≤ℤ cut.line) items a cut.left (has_item items x a got)
+  left_at x a got = All-contains (λ c. (rect_of c).x1 ≤ℤ cut.line) items a cut.left (contains_at items x a got)
 
   -- the gaps of cut rectangles are those of the items
   x_gap_is : (x : ℕ) (a : Item) → slice_get items x ≡ Some a → x_gap (rect_numbered rects n) (cut_at cut.line (rect_of a)) ≡ x_gap (rect_of a) (rect_of b)
@@ -154,7 +151,7 @@ module _ {Item : Type 0} (Holds : Item → Item → Type 0) (rect_of : Item → 
       let earlier : x < n = ltb-true x n outer.1 in
       elim (slice_get_cases items x).1 [
         | inl (a, inside, there, is) ↦
-            let same : layer_of a ≡ layer_of b = sym (layer_at x a there) ∙ eqb-true _ _ on.1 in
+            let same : layer_of a ≡ layer_of b = sym (get_or_mapped layer_of items x a 0 there) ∙ eqb-true _ _ on.1 in
             record {
               item = a;
               there = there;
@@ -170,7 +167,7 @@ module _ {Item : Type 0} (Holds : Item → Item → Type 0) (rect_of : Item → 
       let same : layer_of a ≡ layer_of b = layered a b holds in
       let within : x < length rects = omega (arith, long, slice_get_within items x a got) in
       let numbers = numbers_on (map layer_of items) (layer_of b) (length rects) in
-      let on : is_on (map layer_of items) (layer_of b) x ≡ true = eq-eqb _ _ (layer_at x a got ∙ same) in
+      let on : is_on (map layer_of items) (layer_of b) x ≡ true = eq-eqb _ _ (get_or_mapped layer_of items x a 0 got ∙ same) in
       let listed = Contains-filter (is_on (map layer_of items) (layer_of b)) (range_with_len 0 (length rects)) x (below_number (length rects) x within) on in
       let in_nodes = Contains-permutation numbers (numbers_of of_layer) x on_layer_nodes.once listed in
       let gaps = rw same at (law a b holds) in
@@ -269,5 +266,5 @@ pub both_near_along_x : {Item : Type 0} (rect_of : Item → RectModel) (layer_of
 both_near_along_x rect_of layer_of reach_of items =
     count_pairs-le (near_on_layer rect_of layer_of reach_of) (near_on_layer_along_x rect_of layer_of reach_of) items
     (λ a b in_a in_b passes.
-    let split = and_split (layer_of a == layer_of b) _ passes in
-    both_true split.0 (and_split (leb (x_gap (rect_of a) (rect_of b)) (reach_of (layer_of a))) _ split.1).0)
+    let split = and_parts (layer_of a == layer_of b) _ passes in
+    both_true split.0 (and_parts (leb (x_gap (rect_of a) (rect_of b)) (reach_of (layer_of a))) _ split.1).0)

@@ -7,6 +7,8 @@ use Rattle.std.proofs.lemmas.Int.{ints}
 use Rattle.std.proofs.lemmas.Option.{slice_get_past}
 use Rattle.std.proofs.lemmas.List.{take-append-le}
 use Rattle.std.proofs.lemmas.List.Elements.{All-head, All-tail, All-drop, All-weaker, filter-append, filter_passes}
+use Rattle.leg_lemmas.proofs.Integers.{le_test}
+use Rattle.leg_lemmas.proofs.Contained.{Contains-filter}
 use Rattle.leg_geom.specs.Plane.{RectModel, IsRect}
 use Rattle.leg_geom.specs.Gap.{gap_between, x_gap, y_gap}
 use Rattle.leg_sweep.specs.declared.bounds.Bounds.{Bounds}
@@ -19,7 +21,6 @@ use Rattle.leg_sweep.specs.Near.{IsNear, AreNear}
 use Rattle.leg_sweep.specs.NearNumbers.{is_near, number_in, numbers_of, near_numbers}
 use Rattle.leg_sweep.specs.Steps.Bounds.{step_of, bounds_around, meet, IsWithin, IsWindow}
 use Rattle.leg_sweep.specs.Steps.Nodes.{members_of, IsForest, IsRightAt, IsRight, IsSearch, AreNodesFrom}
-use Rattle.leg_sweep.proofs.Lists.{Contains-filter}
 
 -- what lies within bounds that don't meet others doesn't meet them either
 meet_within : (w inner outer : Bounds) → IsWithin inner outer → meet w outer ≡ false → meet w inner ≡ false
@@ -57,9 +58,7 @@ step_rises (negsuc a) (pos b) below = omega (arith, ints)
 step_rises (negsuc a) (negsuc b) below = omega (arith, ints)
 
 steps_meet : (a b : ℤ) → a ≤ℤ b → int_le (step_of a) (step_of b) ≡ true
-steps_meet a b below = let rises = step_rises a b below in le_true (step_of a) (step_of b) rises where
-  le_true : (x y : ℤ) → x ≤ℤ y → int_le x y ≡ true
-  le_true x y rises = grind (arith, ints)
+steps_meet a b below = le_test (step_of a) (step_of b) (step_rises a b below)
 
 -- a number with a rectangle is below the count
 pub number_below : (rects : List RectModel) (rect : RectModel) (number : ℕ) → slice_get rects number ≡ Some rect → number < length rects

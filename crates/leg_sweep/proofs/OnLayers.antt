@@ -3,7 +3,7 @@ use Rattle.std.proofs.Common.{◌≡◌, ℕ, ◌<◌, ◌≤◌, ◌==◌, Bool
 use Rattle.std.specs.Cmp.{both_ways}
 use Rattle.std.specs.Cmp.Derive.{both_true}
 use Rattle.std.specs.List.{range_with_len}
-use Rattle.std.proofs.lemmas.Bool.{eqb-true, eq-eqb}
+use Rattle.std.proofs.lemmas.Bool.{eqb-true, eq-eqb, and_parts}
 use Rattle.std.proofs.lemmas.List.{length-map}
 use Rattle.std.proofs.lemmas.List.FromFn.{fill_by_all}
 use Rattle.leg_geom.specs.Plane.{RectModel}
@@ -11,7 +11,7 @@ use Rattle.leg_sweep.specs.declared.band.Stretch.{Stretch}
 use Rattle.leg_sweep.specs.Counts.{count_pairs}
 use Rattle.leg_sweep.specs.Steps.Bands.{Waiting, share_band, reach_at, AreByLayer}
 use Rattle.leg_sweep.specs.Steps.Sweep.{unit_square, rect_numbered, test_at, IsLeftToRight}
-use Rattle.leg_sweep.proofs.Counts.{and_split, count_pairs-le, count_pairs-map, count_pairs-IsPermutation}
+use Rattle.leg_sweep.proofs.Counts.{count_pairs-le, count_pairs-map, count_pairs-IsPermutation}
 use Rattle.leg_sweep.proofs.Places.{order_below}
 use Rattle.leg_sweep.proofs.Progress.{place_of}
 
@@ -31,7 +31,7 @@ module _ (test : ℕ → RectModel → RectModel → Bool) (reach_of : ℕ → �
   one_way : (i j : ℕ) → on_one_layer test reach_of (rect_numbered rects i, get_or layers i 0) (rect_numbered rects j, get_or layers j 0) ≡ true
       → on_one_layer test reach_of (rect_numbered rects j, get_or layers j 0) (rect_numbered rects i, get_or layers i 0) ≡ true
   one_way i j passes =
-      let split = and_split (get_or layers i 0 == get_or layers j 0) (test_at (test (reach_of (get_or layers i 0))) rects i j) passes in
+      let split = and_parts (get_or layers i 0 == get_or layers j 0) (test_at (test (reach_of (get_or layers i 0))) rects i j) passes in
       let same : get_or layers i 0 ≡ get_or layers j 0 = eqb-true _ _ split.0 in
       let turned : test_at (test (reach_of (get_or layers i 0))) rects j i ≡ true = sym (symmetric (reach_of (get_or layers i 0)) i j) ∙ split.1 in
       both_true (eq-eqb _ _ (sym same)) (rw same at turned)
@@ -62,7 +62,7 @@ on_layers {Item} test reach_of rect_of layer_of items symmetric stretches bands 
     rw place.2 at inside in
     let fewer = count_pairs-le (λ x y. share_band stretches x y && test_at (test (reach_at stretches bands x)) rects x y) by_number order
     (λ x y in_x in_y passes.
-    let split = and_split (share_band stretches x y) (test_at (test (reach_at stretches bands x)) rects x y) passes in
+    let split = and_parts (share_band stretches x y) (test_at (test (reach_at stretches bands x)) rects x y) passes in
     let same = by_layer.apart x y (below x in_x) (below y in_y) split.0 in
     both_true (eq-eqb _ _ same) (rw (by_layer.reach x (below x in_x)) at split.1)) in
     let moved = count_pairs-IsPermutation by_number (layer_symmetric test reach_of rects layers symmetric) numbers order sorted.numbers in

@@ -1,6 +1,6 @@
 -- A single band, in which all items stand.
 use Rattle.std.proofs.Common.{◌≡◌, ℕ, zero, suc, ◌≤◌, true, List, [], ◌∷◌, length, replicate, sum_by, refl, sym, ap, subst, inl, inr, arith}
-use Rattle.std.proofs.lemmas.Bool.{cases_lt}
+use Rattle.std.proofs.lemmas.Bool.{cases_lt, and_parts}
 use Rattle.std.proofs.lemmas.List.{get_or-replicate, get_or_past, length-replicate}
 use Rattle.std.proofs.lemmas.List.Sums.{sum_by-cons}
 use Rattle.leg_geom.specs.Plane.{RectModel}
@@ -9,7 +9,7 @@ use Rattle.leg_sweep.specs.declared.band.Stretch.{Stretch}
 use Rattle.leg_sweep.specs.Counts.{near_along_x, near_along_both, count_pairs}
 use Rattle.leg_sweep.specs.Steps.Bands.{empty_band, waiting_at, stretch_at, entries_at, reach_at, share_band, near_in_band, near_both_in_band, AreStretches, AreEmpty}
 use Rattle.leg_sweep.specs.Steps.Sweep.{test_at}
-use Rattle.leg_sweep.proofs.Counts.{and_split, count_pairs-le}
+use Rattle.leg_sweep.proofs.Counts.{count_pairs-le}
 
 -- the stretches of so many items
 abbrev pub lowest : Stretch
@@ -61,7 +61,7 @@ pub one_near : (rects : List RectModel) (n reach : ℕ) (order : List ℕ)
 one_near rects n reach order =
     count_pairs-le (near_in_band rects (replicate n lowest) (empty_band reach ∷ [])) (test_at (near_along_x reach) rects) order
     (λ x y in_x in_y passes.
-    let split = and_split (share_band (replicate n lowest) x y) _ passes in
+    let split = and_parts (share_band (replicate n lowest) x y) _ passes in
     subst (λ r. test_at (near_along_x r) rects x y ≡ true) (reach_one n x reach) split.1)
 
 pub one_near_both : (rects : List RectModel) (n reach : ℕ) (order : List ℕ)
@@ -69,7 +69,7 @@ pub one_near_both : (rects : List RectModel) (n reach : ℕ) (order : List ℕ)
 one_near_both rects n reach order =
     count_pairs-le (near_both_in_band rects (replicate n lowest) (empty_band reach ∷ [])) (test_at (near_along_both reach) rects) order
     (λ x y in_x in_y passes.
-    let split = and_split (share_band (replicate n lowest) x y) _ passes in
+    let split = and_parts (share_band (replicate n lowest) x y) _ passes in
     subst (λ r. test_at (near_along_both r) rects x y ≡ true) (reach_one n x reach) split.1)
 
 -- no item waits in it

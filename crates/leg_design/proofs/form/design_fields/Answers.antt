@@ -10,4 +10,5 @@ returns-in_err-end-clause-design g c =
 pub returns-in_err-nothing_more-clause-design : goal.returns-in_err-nothing_more-clause-design
 returns-in_err-nothing_more-clause-design g c =
     let p = err_from_is_err_and c.from_residual-in_err-nothing_more.result c.from_residual-in_err-nothing_more.ensures.1 in
-    rw (p.1, p.2) (λ not_memory. more_after c.args.library.now _ c.args.words.now c.forms.new.words c.end.new.self c.in_ok-parts.ensures c.in_ok-end.ensures.reads (c.in_err-nothing_more.ensures.means not_memory))
+    rw (p.1, p.2) (λ not_memory. more_after c.args.library.now _ c.args.words.now c.forms.new.words c.end.new.self c.in_ok-parts.ensures
+    c.in_ok-end.ensures.reads (c.in_err-nothing_more.ensures.means not_memory))

@@ -11,4 +11,5 @@ entries-smaller g c = entry_shorter c.args.library.now c.entries.blockages c.ent
 pub entries-preserved : goal.entries-preserved
 entries-preserved g c =
     let more : at_end c.entries.words ≡ false = sym c.is_at.ensures ∙ c.entries-test.true in
-    sym (goes_on at_end (blockage_entry c.args.library.now) (entry_shortens c.args.library.now) c.entries.blockages c.entry.new.blockages c.entries.words c.entry.new.words more c.in_ok-entry.ensures) ∙ c.entries.invariant
+    sym (goes_on at_end (blockage_entry c.args.library.now) (entry_shortens c.args.library.now) c.entries.blockages c.entry.new.blockages c.entries.words
+    c.entry.new.words more c.in_ok-entry.ensures) ∙ c.entries.invariant

@@ -12,7 +12,8 @@ room_left number many limit is room = omega arith
 
 pub returns-then-len-ge-ENTRY_LIMIT : goal.returns-then-len-ge-ENTRY_LIMIT
 unfolding pin_entry
-returns-then-len-ge-ENTRY_LIMIT g c = rw (is_full c.len.result (length c.args.pins.now) ENTRY_LIMIT c.len.ensures.is c.if-len-ge-ENTRY_LIMIT.true) (λ not_memory. refl)
+returns-then-len-ge-ENTRY_LIMIT g c =
+    rw (is_full c.len.result (length c.args.pins.now) ENTRY_LIMIT c.len.ensures.is c.if-len-ge-ENTRY_LIMIT.true) (λ not_memory. refl)
 
 pub push-requires-clause-room : goal.push-requires-clause-room
 push-requires-clause-room g c = room_left c.len.result (length c.args.pins.now) ENTRY_LIMIT c.len.ensures.is c.if-len-ge-ENTRY_LIMIT.false

@@ -10,7 +10,8 @@ sum_fits a b one other = fits_signed_from_abs w64 (a +ℤ b) (omega (arith, ints
 pub returns : goal.returns
 returns c =
     let way = c.args.steps *ℤ c.args.step in
-    let size : unsigned_abs way ≤ NUMBER_LIMIT * NUMBER_LIMIT = omega (arith, unsigned_abs-mul c.args.steps c.args.step, mul-le _ _ _ _ c.requires.steps c.requires.step) in
+    let size : unsigned_abs way ≤ NUMBER_LIMIT * NUMBER_LIMIT =
+    omega (arith, unsigned_abs-mul c.args.steps c.args.step, mul-le _ _ _ _ c.requires.steps c.requires.step) in
     let start = to_z-of_z w64 c.args.start c.ranges.start in
     let steps = to_z-of_z w64 c.args.steps c.ranges.steps in
     let step = to_z-of_z w64 c.args.step c.ranges.step in

@@ -1,4 +1,5 @@
-use Rattle.leg_design_common.proofs.Numbers.{whole_is_number, number_kept}
+use Rattle.leg_lex.proofs.InBits.{number_kept}
+use Rattle.leg_design_common.proofs.Numbers.{whole_is_number}
 use Rattle.leg_design_floorplan.proofs.row.row_of.Goals as goal
 
 pub ends_within-requires-clause-start : goal.ends_within-requires-clause-start

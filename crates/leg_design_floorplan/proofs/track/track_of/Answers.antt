@@ -1,6 +1,7 @@
 use Rattle.std.proofs.Common.{refl}
+use Rattle.leg_lex.proofs.InBits.{number_fits, number_kept}
 use Rattle.leg_grammar.specs.Def.Track.{track_in}
-use Rattle.leg_design_common.proofs.Numbers.{whole_is_number, number_fits, number_kept, one_less, below_one}
+use Rattle.leg_design_common.proofs.Numbers.{whole_is_number, one_less, below_one}
 use Rattle.leg_design_floorplan.proofs.track.track_of.Goals as goal
 
 pub returns-then-count-lt1 : goal.returns-then-count-lt1
@@ -8,7 +9,8 @@ unfolding track_in
 returns-then-count-lt1 g c =
     let number = whole_is_number c.keyword-2.new.self c.in_ok-count.count c.whole-2.new.self c.in_ok-count.ensures.reads in
     let none = below_one c.in_ok-count.count (rw (number_kept c.in_ok-count.count number) at c.if-count-lt1.true) in
-    rw (c.in_ok-keyword.ensures.reads, c.in_ok-axis.ensures, c.in_ok-start.ensures.reads, c.in_ok-keyword-2.ensures.reads, c.in_ok-count.ensures.reads, none) (λ not_memory. refl)
+    rw (c.in_ok-keyword.ensures.reads, c.in_ok-axis.ensures, c.in_ok-start.ensures.reads, c.in_ok-keyword-2.ensures.reads, c.in_ok-count.ensures.reads, none)
+    (λ not_memory. refl)
 
 pub ends_within-requires-clause-start : goal.ends_within-requires-clause-start
 ends_within-requires-clause-start g c =

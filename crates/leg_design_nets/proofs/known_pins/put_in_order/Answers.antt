@@ -14,4 +14,5 @@ pub returns-clause-all : goal.returns-clause-all
 returns-clause-all g c n there =
     rw (dedup_is nat_eq _ _ c.dedup.ensures.filtered)
     (Contains-dedup_nat c.sort_unstable.new.self.items n
-    (Contains-permutation c.args.numbers.now.items c.sort_unstable.new.self.items n c.sort_unstable.ensures.permutation (contains_number n c.args.numbers.now.items there)))
+    (Contains-permutation c.args.numbers.now.items c.sort_unstable.new.self.items n c.sort_unstable.ensures.permutation
+    (contains_number n c.args.numbers.now.items there)))

@@ -6,5 +6,6 @@ use Rattle.leg_design_nets.proofs.lone_pins.add_lone_pins.Given as goal
 
 abbrev pub invariant-loop-number : goal.invariant-loop-number
 invariant-loop-number g l =
-    (with_lone_pins (record { nets = l.nets; special = l.special }) l.number (drop l.number l.pins) ≡ with_lone_pins (record { nets = l.initial.nets; special = l.initial.special }) 0 l.pins)
+    (with_lone_pins (record { nets = l.nets; special = l.special }) l.number (drop l.number l.pins) ≡ with_lone_pins
+    (record { nets = l.initial.nets; special = l.initial.special }) 0 l.pins)
     × (terminal_count l.nets + terminal_count l.special ≤ PART_LIMIT + l.number)

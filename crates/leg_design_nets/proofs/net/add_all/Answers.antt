@@ -7,7 +7,8 @@ loop-terminal-preserved g c =
     let earlier = c.loop-terminal.invariant.kept in
     record {
       said =
-          sym (added_on c.args.name.now c.args.table.now.nets c.loop-terminal.table.nets c.args.others.now c.loop-terminal.table.terminals c.add.new.self.terminals c.args.terminals.now c.loop-terminal.terminal-index c.loop-terminal-test.true earlier c.in_ok-add.ensures.said)
+          sym (added_on c.args.name.now c.args.table.now.nets c.loop-terminal.table.nets c.args.others.now c.loop-terminal.table.terminals
+          c.add.new.self.terminals c.args.terminals.now c.loop-terminal.terminal-index c.loop-terminal-test.true earlier c.in_ok-add.ensures.said)
           ∙ c.loop-terminal.invariant.said;
       kept = c.in_ok-add.ensures.kept ∙ earlier;
     }

@@ -16,7 +16,8 @@ loop-pin-preserved g c =
       added = λ name there.
           ⊎_elim
           (λ before. c.in_ok-add.ensures.kept name c.args.number (c.loop-pin.invariant.added name before))
-          (λ (same : name ≡ x.name). subst (λ (q : List ℕ). is_in c.args.number (numbers_under c.add.new.self q) ≡ true) (named ∙ sym same) c.in_ok-add.ensures.added)
+          (λ (same : name ≡ x.name). subst (λ (q : List ℕ). is_in c.args.number (numbers_under c.add.new.self q) ≡ true)
+          (named ∙ sym same) c.in_ok-add.ensures.added)
           (some_place name x.name _ (rw (names_taken pins i x less c.pin-item.is) at there));
       kept = λ name m there. c.in_ok-add.ensures.kept name m (c.loop-pin.invariant.kept name m there);
     }

@@ -19,7 +19,8 @@ loop-c-preserved g c =
       | then-component-len+in_ok-add_number w ↦
           let test = w.if-component-len.true in
           let within : x.master < length lists = grind (arith, test, count, size) in
-          let put = w.in_ok-add_number.ensures.added ∙ ap (λ (xs : List (List ℕ)). slice_set xs x.master (get_or xs x.master [] ++ i ∷ [])) w.deref_mut.ensures.value in
+          let put =
+          w.in_ok-add_number.ensures.added ∙ ap (λ (xs : List (List ℕ)). slice_set xs x.master (get_or xs x.master [] ++ i ∷ [])) w.deref_mut.ensures.value in
           let whole = written lists x.master i within w.add_number.new.lists c.loop-c.lists.len put size in
           rw w.lists-is (record {
             long = length_longer lists _ x.master i whole ∙ c.loop-c.invariant.long;

@@ -15,7 +15,8 @@ loop-m-preserved g c =
     let x = c.index-masters-m.result in
     let less : i < length masters = omega arith in
     let within : i < length lists = omega (arith, c.requires) in
-    let list : c.as_slice.result.now ≡ get_or lists i [] = c.as_slice.ensures ∙ (c.index-components-m.is ∙ get_or_default lists i c.index-components-m.result [] within) in
+    let list : c.as_slice.result.now ≡ get_or lists i [] =
+    c.as_slice.ensures ∙ (c.index-components-m.is ∙ get_or_default lists i c.index-components-m.result [] within) in
     let used : pin_names c.used_pins-pins.result.now ≡ used_names x (get_or lists i []) = c.used_pins-pins.ensures ∙ ap (used_names x) list in
     under_more masters lists (numbers_under c.loop-m.table) (numbers_under c.add_master.new.table) i x less c.index-masters-m.is c.loop-m.invariant
     c.in_ok-add_master.ensures.kept
@@ -24,4 +25,5 @@ loop-m-preserved g c =
 pub returns : goal.returns
 returns g c =
     let masters = c.args.masters.now in
-    subst (λ (xs : List MasterModel). AreUnder xs c.args.components.now (numbers_under c.loop-m.table)) (take_all c.loop-m.m masters (omega arith)) c.loop-m.invariant
+    subst (λ (xs : List MasterModel). AreUnder xs c.args.components.now (numbers_under c.loop-m.table))
+    (take_all c.loop-m.m masters (omega arith)) c.loop-m.invariant

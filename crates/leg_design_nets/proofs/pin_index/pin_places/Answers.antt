@@ -20,7 +20,8 @@ loop-k-preserved g c =
           let test = w.if-not-contains_key.true in
           let absent : c.contains_key.result ≡ false = grind (arith, common_steps, test) in
           let new : is_some (place_in_table c.loop-k.places c.bytes-name.result.now) ≡ false = rw asked at absent in
-          λ q. rw w.places-is (places_new c.bytes-name.result c.loop-k.places w.insert.new.self pins i x less c.index-pins-k.is named c.loop-k.invariant new w.in_ok-insert.ensures.updates q)
+          λ q. rw w.places-is (places_new c.bytes-name.result c.loop-k.places w.insert.new.self pins i x less c.index-pins-k.is named c.loop-k.invariant new
+          w.in_ok-insert.ensures.updates q)
       | else-not-contains_key w ↦
           let test = w.if-not-contains_key.false in
           let present : c.contains_key.result ≡ true = grind (arith, common_steps, test) in

@@ -5,4 +5,5 @@ use Rattle.leg_design_records.proofs.design_change.append_in_turn.Given as goal
 
 abbrev pub invariant-loop-wires : goal.invariant-loop-wires
 invariant-loop-wires g l =
-    (l.nets ≡ with_more_wires l.fn.nets (map (λ w. w.items) l.yielded)) × (l.n ≡ length l.yielded) × (l.yielded ++ l.wires-iterator.rest.items ≡ l.fn.lists.items)
+    (l.nets ≡ with_more_wires l.fn.nets (map (λ w. w.items) l.yielded)) × (l.n ≡ length l.yielded) ×
+    (l.yielded ++ l.wires-iterator.rest.items ≡ l.fn.lists.items)

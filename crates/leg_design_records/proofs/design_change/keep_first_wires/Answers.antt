@@ -17,4 +17,5 @@ loop-n-preserved g c =
     let net : NetModel = c.index-nets-n.result in
     let there : net ≡ get_or c.loop-n.nets n net = search rules in
     rw (take_more counts n 0 also)
-    (one_more_count c.args.nets.now c.loop-n.nets (take n counts) n net _ (get_or counts n 0) c.loop-n.invariant (sym (length-take-le n counts (omega (arith, also)))) within there (search rules))
+    (one_more_count c.args.nets.now c.loop-n.nets (take n counts) n net _ (get_or counts n 0) c.loop-n.invariant
+    (sym (length-take-le n counts (omega (arith, also)))) within there (search rules))

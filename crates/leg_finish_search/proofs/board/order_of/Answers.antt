@@ -5,7 +5,8 @@ use Rattle.leg_finish_search.proofs.board.order_of.Goals as goal
 
 pub loop-k-init : goal.loop-k-init
 loop-k-init g c = record {
-  turns = rw c.as_slice-turns.ensures.value (All-permutation (λ (turn : ℕ × ℕ). turn.1 < length c.args.nets.now) _ _ c.sort_unstable.ensures.permutation c.loop-place.invariant);
+  turns = rw c.as_slice-turns.ensures.value (All-permutation
+      (λ (turn : ℕ × ℕ). turn.1 < length c.args.nets.now) _ _ c.sort_unstable.ensures.permutation c.loop-place.invariant);
   order = rw c.in_ok-order.ensures.items (All-nil (λ place. place < length c.args.nets.now));
 }
 

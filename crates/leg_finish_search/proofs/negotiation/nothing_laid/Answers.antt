@@ -11,5 +11,6 @@ loop-preserved g c =
     let len = c.in_ok-push.ensures.len in
     record {
       count = rw items (length-append c.loop.laid.items (c.nothing.result ∷ []) ∙ ap (λ n. n + 1) c.loop.invariant.count);
-      laid = λ size. rw items (All-push (IsLaidIn size) c.loop.laid.items c.nothing.result (c.loop.invariant.laid size) (none size c.nothing.result c.nothing.ensures));
+      laid = λ size. rw items (All-push (IsLaidIn size) c.loop.laid.items c.nothing.result (c.loop.invariant.laid size)
+          (none size c.nothing.result c.nothing.ensures));
     }

@@ -7,7 +7,8 @@ use Rattle.leg_finish_search.proofs.rounds.lay_again.Goals as goal
 
 pub lift-requires : goal.lift-requires
 lift-requires g c =
-    rw c.requires.size (All-get_or (IsLaidIn (g.L.Lattice.size_of c.args.board.now.ground.lattice.now)) c.args.laid.now c.args.place c.index-laid-place.result c.requires.there c.requires.laid)
+    rw c.requires.size (All-get_or (IsLaidIn (g.L.Lattice.size_of c.args.board.now.ground.lattice.now)) c.args.laid.now c.args.place c.index-laid-place.result
+    c.requires.there c.requires.laid)
 
 pub lay-requires-clause-groups : goal.lay-requires-clause-groups
 lay-requires-clause-groups g c =
@@ -26,4 +27,5 @@ put_back-requires g c =
 
 pub returns-in_ok-net-in-Some-clause-laid : goal.returns-in_ok-net-in-Some-clause-laid
 returns-in_ok-net-in-Some-clause-laid g c =
-    rw c.put.ensures (All-set (IsLaidIn (g.L.Lattice.size_of c.args.board.now.ground.lattice.now)) c.args.laid.now c.args.place c.in_ok-net-in-Some.net c.in_ok-net-in-Some.ensures.laid c.requires.laid)
+    rw c.put.ensures (All-set (IsLaidIn (g.L.Lattice.size_of c.args.board.now.ground.lattice.now)) c.args.laid.now c.args.place c.in_ok-net-in-Some.net
+    c.in_ok-net-in-Some.ensures.laid c.requires.laid)

@@ -1,9 +1,9 @@
 -- A flat keeps its limits: shapes were counted, and the nets of a design are few.
 use Rattle.std.proofs.Common.{length}
+use Rattle.leg_lib_records.proofs.OneEach.{same_length}
 use Rattle.leg_rules.specs.Metal.Metal.{metal_of}
 use Rattle.leg_rules.specs.Metal.Flat.{IsShapeOf}
 use Rattle.leg_flat.proofs.Counts.{counted_within}
-use Rattle.leg_flat.proofs.FlatWithin.{same_length}
 use Rattle.leg_flat.proofs.flat.flatten.Goals as goal
 
 pub invariant_of-result : goal.invariant_of-result

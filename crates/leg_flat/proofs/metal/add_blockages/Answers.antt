@@ -1,10 +1,10 @@
 use Rattle.std.proofs.Common.{◌≡◌, length, sym, ap, ◌∙◌, zero-add}
 use Rattle.std.proofs.lemmas.List.{length-map}
+use Rattle.leg_lemmas.proofs.Places.{all_at}
 use Rattle.leg_design_records.specs.WellFormedParts.{IsBlockage}
 use Rattle.leg_design_records.specs.Records.{blockage_said}
 use Rattle.leg_flat.proofs.MoreMetal.{adds_at, adds_all}
 use Rattle.leg_flat.proofs.MetalWalks.{one_blockage, blockages_walk}
-use Rattle.leg_flat.proofs.MetalKnown.{all_at}
 use Rattle.leg_flat.proofs.MetalSizes.{read_said}
 use Rattle.leg_flat.proofs.metal.add_blockages.Goals as goal
 
@@ -16,7 +16,7 @@ add_blockage-requires g c =
     let items = c.blockages-blockage-items.result.now in
     let k = c.loop-k.k in
     let there = read_said blockage_said items design.blockages k blockage known.is c.loop-k-test.true c.blockage-item.is in
-    (all_at (IsBlockage design.library) design.blockages k (blockage_said blockage) there known.proper.blockages.each).rects
+    (all_at (IsBlockage design.library) design.blockages k (blockage_said blockage) known.proper.blockages.each there).rects
 
 pub loop-k-preserved : goal.loop-k-preserved
 loop-k-preserved g c =

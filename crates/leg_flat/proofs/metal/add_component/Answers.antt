@@ -1,9 +1,9 @@
 use Rattle.std.proofs.Common.{◌≡◌, Some, None, slice_get, sym}
+use Rattle.leg_lemmas.proofs.Places.{all_at}
 use Rattle.leg_lib_records.specs.Sound.{IsSoundMaster}
 use Rattle.leg_flat.specs.Steps.AddedMetal.{master_of}
 use Rattle.leg_flat.proofs.MoreMetal.{adds_none, adds_same, adds_both}
 use Rattle.leg_flat.proofs.MetalWalks.{no_place, no_master}
-use Rattle.leg_flat.proofs.MetalKnown.{all_at}
 use Rattle.leg_flat.proofs.MetalKept.{on_ok}
 use Rattle.leg_flat.proofs.metal.add_component.Goals as goal
 
@@ -20,13 +20,13 @@ pub add_pins-requires-clause-within : goal.add_pins-requires-clause-within
 add_pins-requires-clause-within g c =
     let there : slice_get c.args.design.now.library.masters c.args.component.now.master ≡ Some c.in-Some-Some.master.now =
     sym (rw c.in-Some-Some.is-1 at c.master_numbered-master.ensures) in
-    all_at IsSoundMaster c.args.design.now.library.masters c.args.component.now.master c.in-Some-Some.master.now there c.requires.sound.masters
+    all_at IsSoundMaster c.args.design.now.library.masters c.args.component.now.master c.in-Some-Some.master.now c.requires.sound.masters there
 
 pub add_obstructions-requires-clause-within : goal.add_obstructions-requires-clause-within
 add_obstructions-requires-clause-within g c =
     let there : slice_get c.args.design.now.library.masters c.args.component.now.master ≡ Some c.in-Some-Some.master.now =
     sym (rw c.in-Some-Some.is-1 at c.master_numbered-master.ensures) in
-    all_at IsSoundMaster c.args.design.now.library.masters c.args.component.now.master c.in-Some-Some.master.now there c.requires.sound.masters
+    all_at IsSoundMaster c.args.design.now.library.masters c.args.component.now.master c.in-Some-Some.master.now c.requires.sound.masters there
 
 pub returns : goal.returns
 returns g c =

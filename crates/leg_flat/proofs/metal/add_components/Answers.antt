@@ -1,7 +1,7 @@
 use Rattle.std.proofs.Common.{sym, zero-add}
+use Rattle.leg_lemmas.proofs.Places.{read_at}
 use Rattle.leg_flat.proofs.MoreMetal.{adds_at, adds_all}
 use Rattle.leg_flat.proofs.MetalWalks.{one_component, components_walk}
-use Rattle.leg_flat.proofs.MetalSizes.{read_at}
 use Rattle.leg_flat.proofs.metal.add_components.Goals as goal
 
 pub loop-c-preserved : goal.loop-c-preserved

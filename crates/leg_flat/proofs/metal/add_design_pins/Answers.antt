@@ -1,18 +1,19 @@
 use Rattle.std.proofs.Common.{◌≡◌, sym, zero-add, rules}
+use Rattle.std.proofs.lemmas.List.Elements.{All-weaker}
+use Rattle.leg_lemmas.proofs.Places.{read_at, all_at}
 use Rattle.leg_design_records.specs.WellFormedParts.{IsPin, IsPort}
 use Rattle.leg_flat.specs.Steps.AddedMetal.{IsPortWithin}
 use Rattle.leg_flat.proofs.MoreMetal.{adds_at, adds_all}
 use Rattle.leg_flat.proofs.MetalWalks.{design_pin_metal, design_pins_walk}
-use Rattle.leg_flat.proofs.MetalKnown.{all_at, all_follow, port_within}
-use Rattle.leg_flat.proofs.MetalSizes.{read_at}
+use Rattle.leg_flat.proofs.MetalKnown.{port_within}
 use Rattle.leg_flat.proofs.metal.add_design_pins.Goals as goal
 
 pub add_ports-requires : goal.add_ports-requires
 add_ports-requires g c =
     let there = read_at _ c.args.design.now.pins c.loop-p.p c.pin-item.result c.pins-pin-items.ensures.is c.loop-p-test.true c.pin-item.is in
     let ports : c.as_slice.result.now ≡ c.pin-item.result.ports = search rules in
-    let known = all_at (IsPin c.args.design.now.library) c.args.design.now.pins c.loop-p.p c.pin-item.result there c.pins-pin-items.ensures.proper.pins.each in
-    rw ports (all_follow (IsPort c.args.design.now.library) IsPortWithin (port_within c.args.design.now.library) c.pin-item.result.ports known.ports)
+    let known = all_at (IsPin c.args.design.now.library) c.args.design.now.pins c.loop-p.p c.pin-item.result c.pins-pin-items.ensures.proper.pins.each there in
+    rw ports (All-weaker (IsPort c.args.design.now.library) IsPortWithin (port_within c.args.design.now.library) c.pin-item.result.ports known.ports)
 
 pub loop-p-preserved : goal.loop-p-preserved
 loop-p-preserved g c =

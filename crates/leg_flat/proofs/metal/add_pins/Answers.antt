@@ -1,11 +1,11 @@
 use Rattle.std.proofs.Common.{◌≡◌, ◌*◌, sym, zero-add, rules}
+use Rattle.leg_lemmas.proofs.Places.{read_at, all_at}
 use Rattle.leg_lex.specs.declared.limits.TheConstants.{NUMBER_LIMIT}
 use Rattle.leg_lib_records.specs.Records.{MasterPinModel}
 use Rattle.leg_lib_records.specs.Sound.{AreShapesWithin}
 use Rattle.leg_flat.proofs.MoreMetal.{adds_at, adds_all}
 use Rattle.leg_flat.proofs.MetalWalks.{pin_metal, pins_walk}
-use Rattle.leg_flat.proofs.MetalKnown.{all_at, master_drawn}
-use Rattle.leg_flat.proofs.MetalSizes.{read_at}
+use Rattle.leg_flat.proofs.MetalKnown.{master_drawn}
 use Rattle.leg_flat.proofs.MetalKept.{kept_size}
 use Rattle.leg_flat.proofs.metal.add_pins.Goals as goal
 
@@ -15,8 +15,8 @@ add_drawn-requires-clause-within g c =
     let there = read_at _ c.args.master.now.pins c.loop-k.k c.pin-item.result same c.loop-k-test.true c.pin-item.is in
     let shapes : c.as_slice.result.now ≡ c.pin-item.result.shapes = search rules in
     rw shapes (master_drawn c.pin-item.result.shapes
-    (all_at (λ (pin : MasterPinModel). AreShapesWithin (2 * NUMBER_LIMIT) pin.shapes) c.args.master.now.pins c.loop-k.k c.pin-item.result there
-    c.requires.within.pins))
+    (all_at (λ (pin : MasterPinModel). AreShapesWithin (2 * NUMBER_LIMIT) pin.shapes) c.args.master.now.pins c.loop-k.k c.pin-item.result
+    c.requires.within.pins there))
 
 pub loop-k-preserved : goal.loop-k-preserved
 loop-k-preserved g c = λ design are of.

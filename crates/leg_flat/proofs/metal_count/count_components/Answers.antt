@@ -1,6 +1,6 @@
 use Rattle.std.proofs.Common.{length, refl, sym, zero-add}
+use Rattle.leg_lemmas.proofs.Places.{read_at}
 use Rattle.leg_flat.proofs.MetalWalks.{one_component, components_walk}
-use Rattle.leg_flat.proofs.MetalSizes.{read_at}
 use Rattle.leg_flat.proofs.Counts.{counts_at, counts_all}
 use Rattle.leg_flat.proofs.metal_count.count_components.Goals as goal
 

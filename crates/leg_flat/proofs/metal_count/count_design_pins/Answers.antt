@@ -1,7 +1,7 @@
 use Rattle.std.proofs.Common.{◌≡◌, length, sym, ap, ◌∙◌, zero-add, rules}
+use Rattle.leg_lemmas.proofs.Places.{read_at}
 use Rattle.leg_rules.specs.Metal.Metal.{ports_outlines}
 use Rattle.leg_flat.proofs.MetalWalks.{design_pin_metal, design_pins_walk}
-use Rattle.leg_flat.proofs.MetalSizes.{read_at}
 use Rattle.leg_flat.proofs.Counts.{belonging_length, counts_at, counts_all}
 use Rattle.leg_flat.proofs.metal_count.count_design_pins.Goals as goal
 

@@ -1,7 +1,8 @@
 use Rattle.std.proofs.Common.{◌≡◌, sym, zero-add, rules, arith}
+use Rattle.leg_lemmas.proofs.Places.{read_at}
 use Rattle.leg_flat.proofs.MoreMetal.{adds_at, adds_all}
 use Rattle.leg_flat.proofs.MetalWalks.{net_metal, nets_walk}
-use Rattle.leg_flat.proofs.MetalSizes.{read_at, wires_within, terminals_few, net_wires_few, counts_length, count_is}
+use Rattle.leg_flat.proofs.MetalSizes.{wires_within, terminals_few, net_wires_few, counts_length, count_is}
 use Rattle.leg_flat.proofs.metal_wires.add_nets.Goals as goal
 
 pub terminal_count-first-requires : goal.terminal_count-first-requires

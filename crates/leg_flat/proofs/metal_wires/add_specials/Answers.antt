@@ -1,7 +1,8 @@
 use Rattle.std.proofs.Common.{◌≡◌, sym, zero-add, rules, arith}
+use Rattle.leg_lemmas.proofs.Places.{read_at}
 use Rattle.leg_flat.proofs.MoreMetal.{adds_at, adds_all}
 use Rattle.leg_flat.proofs.MetalWalks.{one_special, specials_walk}
-use Rattle.leg_flat.proofs.MetalSizes.{read_at, wires_within, terminals_few, regular_wires_few, special_wires_few, special_is_number, special_below, special_count, counts_length}
+use Rattle.leg_flat.proofs.MetalSizes.{wires_within, terminals_few, regular_wires_few, special_wires_few, special_is_number, special_below, special_count, counts_length}
 use Rattle.leg_flat.proofs.metal_wires.add_specials.Goals as goal
 
 pub overflow_cast-before : goal.overflow_cast-before

@@ -1,6 +1,7 @@
 use Rattle.std.proofs.Common.{◌≡◌, ◌≢◌, inl, inr, w64, arith}
 use Rattle.std.proofs.lemmas.Int.{ints, to_z-of_z}
-use Rattle.leg_flat.proofs.OutlineLines.{kept, ends, is_made, made_is, horizontal_points, vertical_points}
+use Rattle.leg_geom.proofs.Coordinates.{coordinate_kept}
+use Rattle.leg_flat.proofs.OutlineLines.{ends, is_made, made_is, horizontal_points, vertical_points}
 use Rattle.leg_flat.proofs.outline.line_rect.Goals as goal
 
 pub unwrap-requires-else-y : goal.unwrap-requires-else-y
@@ -13,9 +14,9 @@ pub returns-then-y-clause-points : goal.returns-then-y-clause-points
 returns-then-y-clause-points c =
     let from = c.args.from.now in
     let to = c.args.to.now in
-    let from_x = kept c.x.result from.x c.x.ensures.is c.x.ensures.within.x in
-    let to_x = kept c.x-then-y.result to.x c.x-then-y.ensures.is c.x-then-y.ensures.within.x in
-    let from_y = kept c.y-then-y.result from.y c.y-then-y.ensures.is c.y-then-y.ensures.within.y in
+    let from_x = coordinate_kept c.x.result from.x c.x.ensures.is c.x.ensures.within.x in
+    let to_x = coordinate_kept c.x-then-y.result to.x c.x-then-y.ensures.is c.x-then-y.ensures.within.x in
+    let from_y = coordinate_kept c.y-then-y.result from.y c.y-then-y.ensures.is c.y-then-y.ensures.within.y in
     let ext_from = to_z-of_z w64 c.args.ext_from c.ranges.ext_from in
     let ext_to = to_z-of_z w64 c.args.ext_to c.ranges.ext_to in
     let width = to_z-of_z w64 c.args.width c.ranges.width in
@@ -31,9 +32,9 @@ pub returns-else-y-clause-points : goal.returns-else-y-clause-points
 returns-else-y-clause-points c =
     let from = c.args.from.now in
     let to = c.args.to.now in
-    let from_x = kept c.x-else-y.result from.x c.x-else-y.ensures.is c.x-else-y.ensures.within.x in
-    let from_y = kept c.y-else-y.result from.y c.y-else-y.ensures.is c.y-else-y.ensures.within.y in
-    let to_y = kept c.y-else-y-2.result to.y c.y-else-y-2.ensures.is c.y-else-y-2.ensures.within.y in
+    let from_x = coordinate_kept c.x-else-y.result from.x c.x-else-y.ensures.is c.x-else-y.ensures.within.x in
+    let from_y = coordinate_kept c.y-else-y.result from.y c.y-else-y.ensures.is c.y-else-y.ensures.within.y in
+    let to_y = coordinate_kept c.y-else-y-2.result to.y c.y-else-y-2.ensures.is c.y-else-y-2.ensures.within.y in
     let ext_from = to_z-of_z w64 c.args.ext_from c.ranges.ext_from in
     let ext_to = to_z-of_z w64 c.args.ext_to c.ranges.ext_to in
     let width = to_z-of_z w64 c.args.width c.ranges.width in

@@ -2,8 +2,8 @@
 use Rattle.std.proofs.Common.{◌≡◌, false, length, slice_get, Some, refl, ap, ◌∙◌, arith, rules}
 use Rattle.std.proofs.Math.ListN.{replicate}
 use Rattle.std.proofs.lemmas.Option.{slice_get_read, slice_get_within}
+use Rattle.leg_lemmas.proofs.Places.{all_at}
 use Rattle.leg_design_records.specs.WellFormedParts.{IsRow}
-use Rattle.leg_legal.proofs.Elements.{all_at}
 use Rattle.leg_legal.proofs.SiteMarks.{marks_of_none, marks_of_more, marks_of_all}
 use Rattle.leg_legal.proofs.unsuited.marks_of_sites.Goals as goal
 

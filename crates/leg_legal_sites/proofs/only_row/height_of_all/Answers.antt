@@ -1,13 +1,13 @@
 -- All rows are of the site of the first one.
 use Rattle.std.proofs.Common.{◌≡◌, ◌<◌, ◌-◌, Some, length, get_or, slice_get, refl, ap, ◌∙◌, arith}
 use Rattle.std.proofs.lemmas.Option.{slice_get_read, slice_get_within, slice_get-get_or}
+use Rattle.leg_lemmas.proofs.Places.{all_at}
 use Rattle.leg_geom.specs.Plane.{IsCoordinate}
 use Rattle.leg_lib_records.specs.declared.records.Site.{Site}
 use Rattle.leg_design_records.specs.WellFormedParts.{IsRow}
 use Rattle.leg_design_records.specs.declared.records.Row.{Row}
 use Rattle.leg_legal_sites.specs.declared.row_keys.RowKey.{RowKey}
 use Rattle.leg_legal_sites.specs.Steps.FreeLists.{IsRowAt}
-use Rattle.leg_legal_sites.proofs.ListPlaces.{of_all}
 use Rattle.leg_legal_sites.proofs.MetSites.{coordinate_passed}
 use Rattle.leg_legal_sites.proofs.RowsTaken.{nowhere, key_within}
 use Rattle.leg_legal_sites.proofs.OnlyRow.{all_so_high}
@@ -30,7 +30,7 @@ bounds-sites-row g c =
     let below : number < length design.rows = key_within design.rows c.args.order.now 0 c.requires.order c.requires.some in
     let at : slice_get design.rows number ≡ Some row =
     rw (← c.rows.ensures.is) (slice_get_read c.rows.result.now _ number row refl (rw c.rows.ensures.is below) c.index-rows-order.is) in
-    let is_row = of_all (IsRow design.library) design.rows number row c.rows.ensures.proper.rows at in
+    let is_row = all_at (IsRow design.library) design.rows number row c.rows.ensures.proper.rows at in
     let same : c.sites.result.now ≡ design.library.sites = c.sites.ensures ∙ ap (λ l. l.sites) c.library.ensures.is in
     rw same (slice_get_within design.library.sites row.site is_row.site is_row.there)
 
@@ -42,7 +42,7 @@ offset_bounds-sites-row g c =
     let below : number < length design.rows = key_within design.rows c.args.order.now 0 c.requires.order c.requires.some in
     let at : slice_get design.rows number ≡ Some row =
     rw (← c.rows.ensures.is) (slice_get_read c.rows.result.now _ number row refl (rw c.rows.ensures.is below) c.index-rows-order.is) in
-    let is_row = of_all (IsRow design.library) design.rows number row c.rows.ensures.proper.rows at in
+    let is_row = all_at (IsRow design.library) design.rows number row c.rows.ensures.proper.rows at in
     let same : c.sites.result.now ≡ design.library.sites = c.sites.ensures ∙ ap (λ l. l.sites) c.library.ensures.is in
     let room : row.site < length c.sites.result.now = rw same (slice_get_within design.library.sites row.site is_row.site is_row.there) in
     omega (arith, room)
@@ -61,7 +61,7 @@ returns g c =
     let below : first.row < length design.rows = key_within design.rows order 0 c.requires.order some in
     let at : slice_get design.rows first.row ≡ Some row =
     rw (← c.rows.ensures.is) (slice_get_read c.rows.result.now _ first.row row refl (rw c.rows.ensures.is below) c.index-rows-order.is) in
-    let is_row = of_all (IsRow design.library) design.rows first.row row c.rows.ensures.proper.rows at in
+    let is_row = all_at (IsRow design.library) design.rows first.row row c.rows.ensures.proper.rows at in
     let same : c.sites.result.now ≡ design.library.sites = c.sites.ensures ∙ ap (λ l. l.sites) c.library.ensures.is in
     let within : row.site < length c.sites.result.now = rw same (slice_get_within design.library.sites row.site is_row.site is_row.there) in
     let sited : slice_get design.library.sites row.site ≡ Some site =

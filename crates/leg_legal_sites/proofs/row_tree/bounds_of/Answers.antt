@@ -1,11 +1,11 @@
 -- The free sites lie in the die.
 use Rattle.std.proofs.Common.{◌≡◌, length, ◌<◌, slice_get, Some, refl, ap, ◌∙◌}
 use Rattle.std.proofs.lemmas.Option.{slice_get_read, slice_get_within}
+use Rattle.leg_lemmas.proofs.Places.{all_at}
 use Rattle.leg_lib_records.specs.Measure.{IsExtent}
 use Rattle.leg_design_records.specs.WellFormedParts.{IsRow}
 use Rattle.leg_legal_sites.specs.Steps.SiteBounds.{DoBound}
 use Rattle.leg_legal_sites.specs.Steps.Parts.{all_of}
-use Rattle.leg_legal_sites.proofs.ListPlaces.{of_all}
 use Rattle.leg_legal_sites.proofs.RowBounds.{within_die}
 use Rattle.leg_legal_sites.proofs.RowsTaken.{same_row}
 use Rattle.leg_legal_sites.proofs.row_tree.bounds_of.Goals as goal
@@ -17,7 +17,7 @@ of_row-requires-clause-within g c =
     let row = c.index-rows-number.result in
     let at : slice_get design.rows number ≡ Some row =
     rw (← c.rows.ensures.is) (slice_get_read c.rows.result.now _ number row refl (rw c.rows.ensures.is c.requires.there) c.index-rows-number.is) in
-    let is_row = of_all (IsRow design.library) design.rows number row c.rows.ensures.proper.rows at in
+    let is_row = all_at (IsRow design.library) design.rows number row c.rows.ensures.proper.rows at in
     let site = c.index-sites-row.result in
     let same : c.sites.result.now ≡ design.library.sites = c.sites.ensures ∙ ap (λ l. l.sites) c.library.ensures.is in
     let within : row.site < length c.sites.result.now = rw same (slice_get_within design.library.sites row.site is_row.site is_row.there) in
@@ -34,7 +34,7 @@ returns g c =
     let row = c.index-rows-number.result in
     let at : slice_get design.rows number ≡ Some row =
     rw (← c.rows.ensures.is) (slice_get_read c.rows.result.now _ number row refl (rw c.rows.ensures.is c.requires.there) c.index-rows-number.is) in
-    let is_row = of_all (IsRow design.library) design.rows number row c.rows.ensures.proper.rows at in
+    let is_row = all_at (IsRow design.library) design.rows number row c.rows.ensures.proper.rows at in
     let site = c.index-sites-row.result in
     let same : c.sites.result.now ≡ design.library.sites = c.sites.ensures ∙ ap (λ l. l.sites) c.library.ensures.is in
     let within : row.site < length c.sites.result.now = rw same (slice_get_within design.library.sites row.site is_row.site is_row.there) in

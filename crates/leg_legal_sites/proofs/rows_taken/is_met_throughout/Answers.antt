@@ -3,16 +3,16 @@ use Rattle.std.proofs.Common.{◌≡◌, ◌<◌, ◌-ℤ◌, ◌<ℤ◌, true, 
 use Rattle.std.specs.Prelude.{is_some, not}
 use Rattle.std.proofs.lemmas.Int.{ints, fits_signed_from_abs, to_z-of_z}
 use Rattle.std.proofs.lemmas.Option.{same_Some, slice_get_read, slice_get_within, slice_get-get_or}
+use Rattle.leg_lemmas.proofs.Integers.{lt_from_test}
+use Rattle.leg_lemmas.proofs.Places.{all_at}
 use Rattle.leg_geom.specs.Plane.{IsCoordinate}
 use Rattle.leg_design_records.specs.WellFormedParts.{IsRow}
 use Rattle.leg_lib_records.specs.declared.records.Site.{Site}
 use Rattle.leg_legal_sites.specs.declared.bounds.Bounds.{Bounds}
 use Rattle.leg_legal_sites.specs.Steps.FreeLists.{IsRowAt}
-use Rattle.leg_legal_sites.proofs.ListPlaces.{of_all}
 use Rattle.leg_legal_sites.proofs.MetSites.{coordinate_passed}
 use Rattle.leg_legal_sites.proofs.RowPlaces.{some_is, alike_rows}
 use Rattle.leg_legal_sites.proofs.SharedLists.{node_read}
-use Rattle.leg_legal_sites.proofs.BoxAtNode.{lt_from_test}
 use Rattle.leg_legal_sites.proofs.rows_taken.is_met_throughout.Goals as goal
 
 abbrev none : Bounds
@@ -45,7 +45,7 @@ returns-then-bounds-y2-clause-met g c t =
     let at_rep : slice_get design.rows number ≡ Some rep =
     rw (← c.rows.ensures.is) (slice_get_read c.rows.result.now _ number rep refl
     (rw c.rows.ensures.is c.row_beneath.ensures.within) c.index-rows-row_beneath.is) in
-    let is_row = of_all (IsRow design.library) design.rows number rep c.rows.ensures.proper.rows at_rep in
+    let is_row = all_at (IsRow design.library) design.rows number rep c.rows.ensures.proper.rows at_rep in
     let same : c.sites.result.now ≡ design.library.sites = c.sites.ensures ∙ ap (λ l. l.sites) c.library.ensures.is in
     let within : rep.site < length c.sites.result.now = rw same (slice_get_within design.library.sites rep.site is_row.site is_row.there) in
     let there_site : slice_get design.library.sites rep.site ≡ Some sited =

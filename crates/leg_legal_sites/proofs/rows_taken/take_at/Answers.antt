@@ -4,13 +4,13 @@ use Rattle.std.specs.Prelude.{unwrap_or, is_some}
 use Rattle.std.proofs.lemmas.Option.{slice_get_read, slice_get_within, slice_get-get_or}
 use Rattle.std.proofs.lemmas.Grind.{get_or-set_at}
 use Rattle.std.proofs.lemmas.List.{get_or_default}
+use Rattle.leg_lemmas.proofs.Places.{all_at}
 use Rattle.leg_lib_records.specs.Measure.{IsExtent}
 use Rattle.leg_design_records.specs.WellFormedParts.{IsRow}
 use Rattle.leg_legal_sites.specs.declared.bounds.Bounds.{Bounds}
 use Rattle.leg_legal_sites.specs.Steps.FreeLists.{IsRowAt}
 use Rattle.leg_legal_sites.specs.Steps.Bounds.{DoBoundAlike}
 use Rattle.leg_legal_sites.specs.Steps.SharedLists.{LosesShared}
-use Rattle.leg_legal_sites.proofs.ListPlaces.{of_all}
 use Rattle.leg_legal_sites.proofs.BoxAtNode.{taken_shared, taken_alone, taken_at_node, left_within, rows_at_node}
 use Rattle.leg_legal_sites.proofs.SharedLists.{node_has}
 use Rattle.leg_legal_sites.proofs.rows_taken.take_at.Goals as goal
@@ -29,7 +29,7 @@ bounds-sites-row g c =
     let at : slice_get design.rows number ≡ Some row =
     rw (← c.rows.ensures.is) (slice_get_read c.rows.result.now _ number row refl
     (rw c.rows.ensures.is c.row_beneath.ensures.within) c.index-rows-row_beneath.is) in
-    let is_row = of_all (IsRow design.library) design.rows number row c.rows.ensures.proper.rows at in
+    let is_row = all_at (IsRow design.library) design.rows number row c.rows.ensures.proper.rows at in
     let same : c.sites.result.now ≡ design.library.sites = c.sites.ensures ∙ ap (λ l. l.sites) c.library.ensures.is in
     rw same (slice_get_within design.library.sites row.site is_row.site is_row.there)
 
@@ -41,7 +41,7 @@ offset_bounds-sites-row g c =
     let at : slice_get design.rows number ≡ Some row =
     rw (← c.rows.ensures.is) (slice_get_read c.rows.result.now _ number row refl
     (rw c.rows.ensures.is c.row_beneath.ensures.within) c.index-rows-row_beneath.is) in
-    let is_row = of_all (IsRow design.library) design.rows number row c.rows.ensures.proper.rows at in
+    let is_row = all_at (IsRow design.library) design.rows number row c.rows.ensures.proper.rows at in
     let same : c.sites.result.now ≡ design.library.sites = c.sites.ensures ∙ ap (λ l. l.sites) c.library.ensures.is in
     let below : row.site < length c.sites.result.now = rw same (slice_get_within design.library.sites row.site is_row.site is_row.there) in
     omega (arith, below)
@@ -69,7 +69,7 @@ bounds_of_list-requires-clause-within g c =
     let at : slice_get design.rows number ≡ Some row =
     rw (← c.rows.ensures.is) (slice_get_read c.rows.result.now _ number row refl
     (rw c.rows.ensures.is c.row_beneath.ensures.within) c.index-rows-row_beneath.is) in
-    let is_row = of_all (IsRow design.library) design.rows number row c.rows.ensures.proper.rows at in
+    let is_row = all_at (IsRow design.library) design.rows number row c.rows.ensures.proper.rows at in
     let same : c.sites.result.now ≡ design.library.sites = c.sites.ensures ∙ ap (λ l. l.sites) c.library.ensures.is in
     let within : row.site < length c.sites.result.now = rw same (slice_get_within design.library.sites row.site is_row.site is_row.there) in
     let there : slice_get design.library.sites row.site ≡ Some site =
@@ -103,7 +103,7 @@ returns g c =
     let at : slice_get design.rows number ≡ Some row =
     rw (← c.rows.ensures.is) (slice_get_read c.rows.result.now _ number row refl
     (rw c.rows.ensures.is c.row_beneath.ensures.within) c.index-rows-row_beneath.is) in
-    let is_row = of_all (IsRow design.library) design.rows number row c.rows.ensures.proper.rows at in
+    let is_row = all_at (IsRow design.library) design.rows number row c.rows.ensures.proper.rows at in
     let same : c.sites.result.now ≡ design.library.sites = c.sites.ensures ∙ ap (λ l. l.sites) c.library.ensures.is in
     let within : row.site < length c.sites.result.now = rw same (slice_get_within design.library.sites row.site is_row.site is_row.there) in
     let there : slice_get design.library.sites row.site ≡ Some site =

@@ -6,4 +6,6 @@ use Rattle.leg_lex.proofs.Digits.{all_digits_is}
 use Rattle.leg_lex.proofs.number.are_digits.Goals as goal
 
 pub returns : goal.returns
-returns c = rw all_digits_is (all_from_yields_List is_ascii_digit _ _ _ c.all.ensures.ran (YieldsList-from_slice c.args.bytes.now cc) (λ x b q k. search (rules, tests)))
+returns c =
+    rw all_digits_is (all_from_yields_List is_ascii_digit _ _ _ c.all.ensures.ran (YieldsList-from_slice c.args.bytes.now cc)
+    (λ x b q k. search (rules, tests)))

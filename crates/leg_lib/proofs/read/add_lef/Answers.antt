@@ -10,8 +10,10 @@ returns-in_err-words-clause-none g c =
 
 pub returns-clause-only : goal.returns-clause-only
 returns-clause-only g c =
-    means_only (lef_in c.args.library.now) c.args.text.now c.in_ok-words.words c.lef_words.result c.lef_words.new.library c.in_ok-words.ensures.found (rw c.new.ensures at c.lef_words.ensures)
+    means_only (lef_in c.args.library.now) c.args.text.now c.in_ok-words.words c.lef_words.result c.lef_words.new.library c.in_ok-words.ensures.found
+    (rw c.new.ensures at c.lef_words.ensures)
 
 pub returns-clause-none : goal.returns-clause-none
 returns-clause-none g c =
-    means_none (lef_in c.args.library.now) c.args.text.now c.in_ok-words.words c.lef_words.result c.lef_words.new.library c.in_ok-words.ensures.found (rw c.new.ensures at c.lef_words.ensures)
+    means_none (lef_in c.args.library.now) c.args.text.now c.in_ok-words.words c.lef_words.result c.lef_words.new.library c.in_ok-words.ensures.found
+    (rw c.new.ensures at c.lef_words.ensures)

@@ -1,15 +1,10 @@
-use Rattle.std.proofs.Common.{Option, None, Some, ◌-ℤ◌, ◌<ℤ◌, refl, arith}
-use Rattle.std.specs.Option.{IsSome, SomeIff}
+use Rattle.std.proofs.Common.{◌-ℤ◌, ◌<ℤ◌, arith}
 use Rattle.std.proofs.lemmas.Int.{ints}
+use Rattle.leg_lemmas.proofs.Options.{there_where}
 use Rattle.leg_geom.specs.Plane.{IsCoordinate}
 use Rattle.leg_lib_records.specs.Scale.{IsLengthAt}
 use Rattle.leg_lib_records.proofs.Scaling.{moved_more}
 use Rattle.leg_lib_records.proofs.scale_shapes.rect_at.Goals as goal
-
--- a value that is there just where a fact holds
-is_there : {T : Type 0} (r : Option T) (P : Type 0) (v : T) → SomeIff r P v → P → IsSome r
-is_there None P v iff p = absurd (iff p)
-is_there (Some x) P v iff p = refl
 
 pub unwrap-requires : goal.unwrap-requires
 unwrap-requires c =
@@ -25,7 +20,7 @@ unwrap-requires c =
     let near_y1 : IsCoordinate c.in_ok-y1.y1 = c.in_ok-y1.ensures.within in
     let near_x2 : IsCoordinate c.in_ok-x2.x2 = c.in_ok-x2.ensures.within in
     let near_y2 : IsCoordinate c.in_ok-y2.y2 = c.in_ok-y2.ensures.within in
-    is_there _ _ _ c.new.ensures (record {
+    there_where _ _ _ c.new.ensures (record {
       x1 = omega (arith, ints, near_x1);
       y1 = omega (arith, ints, near_y1);
       x2 = omega (arith, ints, near_x2);

@@ -1,10 +1,10 @@
 -- The sites of one more row.
 use Rattle.std.proofs.Common.{◌≡◌, length, ◌<◌, slice_get, Some, refl, ap, ◌∙◌, arith}
 use Rattle.std.proofs.lemmas.Option.{slice_get_read, slice_get_within}
+use Rattle.leg_lemmas.proofs.Places.{all_at}
 use Rattle.leg_design_records.specs.WellFormedParts.{IsRow}
 use Rattle.leg_place.specs.Steps.RowSpans.{IsRowSpan}
 use Rattle.leg_place.proofs.KeptSpans.{spans_more}
-use Rattle.leg_place.proofs.Places.{All-at}
 use Rattle.leg_place.proofs.row_spans.all_spans.Goals as goal
 
 pub loop-row-preserved : goal.loop-row-preserved
@@ -14,7 +14,7 @@ loop-row-preserved g c =
     let row = c.row-item.result in
     let at : slice_get design.rows i ≡ Some row =
     rw (← c.rows-row-items.ensures.is) (slice_get_read c.rows-row-items.result.now _ i row refl (omega arith) c.row-item.is) in
-    let is_row = All-at (IsRow design.library) design.rows i row c.rows-row-items.ensures.proper.rows at in
+    let is_row = all_at (IsRow design.library) design.rows i row c.rows-row-items.ensures.proper.rows at in
     let site = c.index-sites-row.result in
     let same : c.sites.result.now ≡ design.library.sites = c.sites.ensures ∙ ap (λ l. l.sites) c.library.ensures.is in
     let within : row.site < length c.sites.result.now = rw same (slice_get_within design.library.sites row.site is_row.site is_row.there) in

@@ -3,12 +3,13 @@ use Rattle.std.proofs.Common.{rules, ◌≡◌, ℤ, pos, ◌+ℤ◌, ◌*ℤ◌
 use Rattle.std.proofs.lemmas.Int.{to_z-of_z}
 use Rattle.std.proofs.lemmas.Option.{same_Some}
 use Rattle.leg_lex.specs.Number.{IsNumber}
+use Rattle.leg_lex.proofs.InBits.{number_fits}
 use Rattle.leg_geom.specs.Plane.{RectModel, IsRect}
 use Rattle.leg_lib_records.specs.Measure.{ExtentModel, IsExtent}
 use Rattle.leg_design_records.specs.WellFormedParts.{IsPosition}
 use Rattle.leg_design_records.specs.declared.records.Row.{Row}
 use Rattle.leg_place.specs.Steps.SiteSpan.{row_box}
-use Rattle.leg_place.proofs.RowSites.{between_fits, number_fits, sum_fits, row_box_proper}
+use Rattle.leg_place.proofs.RowSites.{between_fits, sum_fits, row_box_proper}
 use Rattle.leg_place.proofs.row_spans.row_rect.Goals as goal
 
 -- a number as it is passed

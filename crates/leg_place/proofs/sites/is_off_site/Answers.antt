@@ -2,8 +2,8 @@
 use Rattle.std.proofs.Common.{◌≡◌, ◌<◌, length, slice_get, Some, refl, sym, ap, ◌∙◌}
 use Rattle.std.proofs.lemmas.Bool.{false≢true}
 use Rattle.std.proofs.lemmas.Option.{slice_get_read}
+use Rattle.leg_lemmas.proofs.Places.{all_at}
 use Rattle.leg_design_records.specs.WellFormedParts.{IsComponent}
-use Rattle.leg_place.proofs.Places.{All-at}
 use Rattle.leg_place.proofs.OnRows.{off_site_test, on_no_site}
 use Rattle.leg_place.proofs.sites.is_off_site.Goals as goal
 
@@ -15,7 +15,7 @@ returns-in-Some-site g c =
     let within : c.args.number < length c.components.result.now = rw c.components.ensures.is c.requires.there in
     let there : slice_get design.components c.args.number ≡ Some component =
     rw (← c.components.ensures.is) (slice_get_read c.components.result.now _ c.args.number component refl within c.index-components-number.is) in
-    let below = (All-at (IsComponent design.library) design.components c.args.number component c.components.ensures.proper.components.each there).master in
+    let below = (all_at (IsComponent design.library) design.components c.args.number component c.components.ensures.proper.components.each there).master in
     let masters_are : c.masters.result.now ≡ design.library.masters = c.masters.ensures.is ∙ ap (λ library. library.masters) c.library.ensures.is in
     let below_read : component.master < length c.masters.result.now = rw masters_are below in
     let is_master : slice_get design.library.masters component.master ≡ Some master =
@@ -32,7 +32,7 @@ returns-in-None g c =
     let within : c.args.number < length c.components.result.now = rw c.components.ensures.is c.requires.there in
     let there : slice_get design.components c.args.number ≡ Some component =
     rw (← c.components.ensures.is) (slice_get_read c.components.result.now _ c.args.number component refl within c.index-components-number.is) in
-    let below = (All-at (IsComponent design.library) design.components c.args.number component c.components.ensures.proper.components.each there).master in
+    let below = (all_at (IsComponent design.library) design.components c.args.number component c.components.ensures.proper.components.each there).master in
     let masters_are : c.masters.result.now ≡ design.library.masters = c.masters.ensures.is ∙ ap (λ library. library.masters) c.library.ensures.is in
     let below_read : component.master < length c.masters.result.now = rw masters_are below in
     let is_master : slice_get design.library.masters component.master ≡ Some master =

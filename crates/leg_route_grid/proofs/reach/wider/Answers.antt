@@ -1,7 +1,8 @@
 use Rattle.std.proofs.Common.{ℤ, pos, ◌-ℤ◌, ◌≤ℤ◌, w64, to_z, of_z, arith}
 use Rattle.std.proofs.lemmas.Int.{ints, to_z-of_z}
+use Rattle.leg_lex.proofs.InBits.{number_fits}
 use Rattle.leg_route_grid.specs.Steps.Reaches.{IsDistance}
-use Rattle.leg_route_grid.proofs.MetalReach.{begun_distance, begun_wider, widened, distance_fits, number_fits, turned}
+use Rattle.leg_route_grid.proofs.MetalReach.{begun_distance, begun_wider, widened, distance_fits, turned}
 use Rattle.leg_route_grid.proofs.reach.wider.Goals as goal
 
 -- the greatest of the reach and of the four numbers

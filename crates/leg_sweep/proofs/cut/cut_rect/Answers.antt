@@ -1,7 +1,8 @@
 use Rattle.std.proofs.Common.{◌≡◌, ℤ, pos}
 use Rattle.leg_geom.specs.Gap.{x_gap}
+use Rattle.leg_geom.proofs.Coordinates.{coordinate_kept}
 use Rattle.leg_sweep.specs.Steps.Cut.{cut_at}
-use Rattle.leg_sweep.proofs.Cuts.{kept, sides_made, sides_are, cut_proper, edge_told}
+use Rattle.leg_sweep.proofs.Cuts.{sides_made, sides_are, cut_proper, edge_told}
 use Rattle.leg_sweep.proofs.cut.cut_rect.Goals as goal
 
 pub unwrap-requires : goal.unwrap-requires
@@ -21,8 +22,9 @@ unwrap-requires g c =
     let edge = rw c.gaps-gap.ensures.same at c.left.ensures.is in
     edge_told c.max-right.result c.left-left.result c.left.result c.gaps-gap.result.0 rect other x1 edge gap is other_is c.requires.right
     c.max-right.ensures.value in
-    sides_made c.new.result _ _ _ _ (cut_at line rect) (kept _ rect.x1 x1 is.x1) (kept _ rect.y1 y1 is.y1) (kept _ _ x2 cut_is.x2)
-    (kept _ rect.y2 y2 is.y2) cut_is c.new.ensures
+    sides_made c.new.result _ _ _ _ (cut_at line rect) (coordinate_kept _ rect.x1 x1 is.x1) (coordinate_kept _ rect.y1 y1 is.y1)
+    (coordinate_kept _ _ x2 cut_is.x2)
+    (coordinate_kept _ rect.y2 y2 is.y2) cut_is c.new.ensures
 
 pub returns-clause-cut : goal.returns-clause-cut
 returns-clause-cut g c =
@@ -41,5 +43,6 @@ returns-clause-cut g c =
     let edge = rw c.gaps-gap.ensures.same at c.left.ensures.is in
     edge_told c.max-right.result c.left-left.result c.left.result c.gaps-gap.result.0 rect other x1 edge gap is other_is c.requires.right
     c.max-right.ensures.value in
-    sides_are c.new.result _ _ _ _ (cut_at line rect) c.unwrap.result (kept _ rect.x1 x1 is.x1) (kept _ rect.y1 y1 is.y1) (kept _ _ x2 cut_is.x2)
-    (kept _ rect.y2 y2 is.y2) c.new.ensures c.unwrap.ensures
+    sides_are c.new.result _ _ _ _ (cut_at line rect) c.unwrap.result (coordinate_kept _ rect.x1 x1 is.x1) (coordinate_kept _ rect.y1 y1 is.y1)
+    (coordinate_kept _ _ x2 cut_is.x2)
+    (coordinate_kept _ rect.y2 y2 is.y2) c.new.ensures c.unwrap.ensures

@@ -18,12 +18,14 @@ beside_spec 𝓤 𝓛 𝓜 𝓡 wired =
     let c = clauses 𝓛 𝓜.mem 𝓡.returns in
     let C = (tables 𝓤 𝓛.H 𝓜 𝓡 𝓡.env).C in
     let Λ = (tables 𝓤 𝓛.H 𝓜 𝓡 𝓡.env).Λ in
-    proved_at 𝓛 ended stays c 𝓜 𝓡 (Goes-dropped 𝓛 1 (slot_at 0 ended.signature.params) ended.kept.0 (λ κs x f. refl), tt) name fn (compiled.unfolded 𝓤 𝓛.H 𝓜 𝓡 wired) (λ z are.
+    proved_at 𝓛 ended stays c 𝓜 𝓡 (Goes-dropped 𝓛 1 (slot_at 0 ended.signature.params) ended.kept.0 (λ κs x f. refl), tt) name fn
+    (compiled.unfolded 𝓤 𝓛.H 𝓜 𝓡 wired) (λ z are.
     let Post : Val → SProp 𝓤 = (walk_of 𝓛 ended stays c).post z in
     let a = z.0.3 in
     let vss = z.0.4 in
     let b : ℕ = block_of a.0.now.ptr in
-    qed 𝓛 ((raw (alive 𝓛 ended.signature z.0.0 z.0.1) ⊛ ‵ (owns (types_at ended.signature.params z.0.0) a vss)) ∷ ‵ ftrue ∷ []) ∵ move ! (1 ∷ []) $ drop ! $ split ! $ move ! (1 ∷ []) $ drop ! $
+    qed 𝓛 ((raw (alive 𝓛 ended.signature z.0.0 z.0.1) ⊛ ‵ (owns (types_at ended.signature.params z.0.0) a vss)) ∷ ‵ ftrue ∷ []) ∵ move ! (1 ∷ []) $ drop ! $
+    split ! $ move ! (1 ∷ []) $ drop ! $
     regoal ! (λ (us : List Val). prop (WpFn 𝓤 𝓛.H C Λ fn us Post)) (λ i. are.0.0 i ++ []) refl $
     enter ! C Λ fn (vptr a.0.ref_ptr.0 a.0.ref_ptr.1 ∷ []) Post $
     alloc_all ! (λ l. pass_all ! refl ((tt, tt), tt) $

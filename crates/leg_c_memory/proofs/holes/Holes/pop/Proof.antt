@@ -21,7 +21,8 @@ pop_spec 𝓤 𝓛 𝓜 𝓡 wired =
     let c = clauses 𝓛 𝓜.mem 𝓡.returns in
     let C = (tables 𝓤 𝓛.H 𝓜 𝓡 𝓡.env).C in
     let Λ = (tables 𝓤 𝓛.H 𝓜 𝓡 𝓡.env).Λ in
-    proved_at 𝓛 ended stays c 𝓜 𝓡 (Goes-blank 𝓛 0 (slot_at 0 ended.signature.params) ended.kept.0 (λ κs x f. tt), tt) name fn (compiled.unfolded 𝓤 𝓛.H 𝓜 𝓡 wired) (λ z are.
+    proved_at 𝓛 ended stays c 𝓜 𝓡 (Goes-blank 𝓛 0 (slot_at 0 ended.signature.params) ended.kept.0 (λ κs x f. tt), tt) name fn
+    (compiled.unfolded 𝓤 𝓛.H 𝓜 𝓡 wired) (λ z are.
     let Post : Val → SProp 𝓤 = (walk_of 𝓛 ended stays c).post z in
     let a = z.0.3 in
     let vss = z.0.4 in
@@ -30,7 +31,8 @@ pop_spec 𝓤 𝓛 𝓜 𝓡 wired =
     let told = list_told x.first vss.0 are.0.0 in
     let Pair : RattleType = Tuple (memory.the_row ∷ list.the_row ∷ []) in
     let Out : RattleType = type_at ended.signature.result z.0.0 in
-    qed 𝓛 ((raw (alive 𝓛 ended.signature z.0.0 z.0.1) ⊛ ‵ (owns (types_at ended.signature.params z.0.0) a vss)) ∷ ‵ ftrue ∷ []) ∵ move ! (1 ∷ []) $ drop ! $ split ! $ move ! (1 ∷ []) $
+    qed 𝓛 ((raw (alive 𝓛 ended.signature z.0.0 z.0.1) ⊛ ‵ (owns (types_at ended.signature.params z.0.0) a vss)) ∷ ‵ ftrue ∷ []) ∵ move ! (1 ∷ []) $ drop ! $
+    split ! $ move ! (1 ∷ []) $
     fsplit ! $ fsplit ! $ drop ! $ move ! (1 ∷ []) $ drop ! $
     by_list x.spans (λ none.
     let at : x.first ≡ null_ptr = x.begins ∙ ap (first_of b) none in
@@ -43,7 +45,8 @@ pop_spec 𝓤 𝓛 𝓜 𝓡 wired =
     (λ yes. sets ! (agg ! (and_then ! (get ! refl) (no_more !))) refl (tt, (record { fits = lit< tt }, tt)) $
     sets ! (agg ! (and_then ! (lit ! tt) (and_then ! (get ! refl) (no_more !)))) refl (tt, (record { fits = lit< tt }, ((record { fits = lit< tt }, tt), tt))) $
     returns_within ! Post refl (look_at ! 0 refl) $ free_all ! refl $
-    use0 𝓛 (‵ (list_own x.first (list_val x.first ∷ []))) (list_made 𝓛 x.first) $ rewrite ! 0 (λ (u : Ptr). ‵ (list_own x.first (list_val u ∷ []))) at refl $ fjoin ! $
+    use0 𝓛 (‵ (list_own x.first (list_val x.first ∷ []))) (list_made 𝓛 x.first) $ rewrite ! 0 (λ (u : Ptr). ‵ (list_own x.first (list_val u ∷ []))) at refl $
+    fjoin ! $
     use1 𝓛 (‵ (Out.own_val (Err x) (live 1 (vcons (list_val null_ptr) vnil) ∷ []))) (err_of 𝓛 Pair list.the_row x (list_val null_ptr)) $
     use0 𝓛 (raw (fact 𝓤 ((x ≡ x) × (x.spans ≡ no_spans)))) (fact_i 𝓤 ((x ≡ x) × (x.spans ≡ no_spans)) (emp 𝓤) (refl, none)) $
     nothing ! $ nothing ! $ fjoin ! $ move ! (3 ∷ 0 ∷ 2 ∷ 1 ∷ []) $
@@ -69,15 +72,26 @@ pop_spec 𝓤 𝓛 𝓜 𝓡 wired =
     sets ! (of_opd ! (get ! refl)) refl (tt, tt) $
     sets ! (agg ! (and_then ! (get ! refl) (and_then ! (get ! refl) (no_more !)))) refl (tt, (tt, (record { fits = omega arith }, tt))) $
     sets ! (agg ! (and_then ! (get ! refl) (no_more !))) refl (and_tt _ ((ptr_typed far).0), ((ptr_typed far).1, tt)) $
-    sets ! (agg ! (and_then ! (get ! refl) (and_then ! (get ! refl) (no_more !)))) refl (and_tt _ (and_tt _ ((ptr_typed far).0)), ((tt, (record { fits = omega arith }, tt)), (((ptr_typed far).1, tt), tt))) $
-    sets_last ! (agg ! (and_then ! (lit ! tt) (and_then ! (get ! refl) (no_more !)))) refl (and_tt _ (and_tt _ (and_tt _ ((ptr_typed far).0))), (record { fits = lit< tt }, (((tt, (record { fits = omega arith }, tt)), (((ptr_typed far).1, tt), tt)), tt))) $
+    sets ! (agg ! (and_then ! (get ! refl) (and_then ! (get ! refl) (no_more !)))) refl
+    (and_tt _ (and_tt _ ((ptr_typed far).0)), ((tt, (record { fits = omega arith }, tt)), (((ptr_typed far).1, tt), tt))) $
+    sets_last ! (agg ! (and_then ! (lit ! tt) (and_then ! (get ! refl) (no_more !)))) refl (
+      and_tt _ (and_tt _ (and_tt _ ((ptr_typed far).0))),
+      (
+        record { fits = lit< tt },
+        (((tt, (record { fits = omega arith }, tt)), (((ptr_typed far).1, tt), tt)), tt),
+      ),
+    ) $
     exec ! C Λ En (after 4 fn.body) (at_ret En Post) $
-    sets ! (of_opd ! (get ! refl)) refl (and_tt _ (and_tt _ (and_tt _ ((ptr_typed far).0))), (record { fits = lit< tt }, (((tt, (record { fits = omega arith }, tt)), (((ptr_typed far).1, tt), tt)), tt))) $
+    sets ! (of_opd ! (get ! refl)) refl (
+      and_tt _ (and_tt _ (and_tt _ ((ptr_typed far).0))),
+      (record { fits = lit< tt }, (((tt, (record { fits = omega arith }, tt)), (((ptr_typed far).1, tt), tt)), tt)),
+    ) $
     returns ! (look_at ! 0 refl) $ free_all ! refl $
     let w : (memory.the_row).Denot = record { ptr = here; size = h.1; fits = fits } in
     let y : (list.the_row).Denot = record { first = far; object = b; spans = hs; begins = refl } in
     let v : Val = pair_val (memory_val here h.1) (list_val far) in
-    use2 𝓛 (‵ (bytes_at here h.1)) (dissolved 𝓛 b h far) $ use0 𝓛 (‵ (memory_own here h.1 (memory_val here h.1 ∷ []))) (memory_made 𝓛 here h.1 (omega arith)) $ fjoin ! $ move ! (1 ∷ []) $
+    use2 𝓛 (‵ (bytes_at here h.1)) (dissolved 𝓛 b h far) $ use0 𝓛 (‵ (memory_own here h.1 (memory_val here h.1 ∷ []))) (memory_made 𝓛 here h.1 (omega arith)) $
+    fjoin ! $ move ! (1 ∷ []) $
     use0 𝓛 (‵ (list_own far (list_val far ∷ []))) (list_made 𝓛 far) $ fjoin ! $ move ! (1 ∷ 0 ∷ []) $
     use2 𝓛 (‵ (Pair.own_val (w, y) (v ∷ []))) (pair_of 𝓛 memory.the_row list.the_row w y (memory_val here h.1) (list_val far)) $
     use1 𝓛 (‵ (Out.own_val (Ok (w, y)) (live 0 (vcons v vnil) ∷ []))) (ok_of 𝓛 Pair list.the_row (w, y) v) $

@@ -12,11 +12,15 @@ use Rattle.leg_c_memory.proofs.memory.Memory.from_raw_parts.Code as compiled
 pub from_raw_parts_spec : {M : Type 1} → statement M
 from_raw_parts_spec 𝓤 𝓛 𝓜 𝓡 wired =
     let fn : Fn = compiled.function in
-    let stays : Stays ended.signature.params ended.kept = (stay_dropped (slot_at 0 ended.signature.params) ended.kept.0, (stay_dropped (slot_at 1 ended.signature.params) ended.kept.1.0, tt)) in
+    let stays : Stays ended.signature.params ended.kept =
+    (stay_dropped (slot_at 0 ended.signature.params) ended.kept.0, (stay_dropped (slot_at 1 ended.signature.params) ended.kept.1.0, tt)) in
     let c = clauses 𝓛 𝓜.mem 𝓡.returns in
     let C = (tables 𝓤 𝓛.H 𝓜 𝓡 𝓡.env).C in
     let Λ = (tables 𝓤 𝓛.H 𝓜 𝓡 𝓡.env).Λ in
-    proved_at 𝓛 ended stays c 𝓜 𝓡 (Goes-dropped 𝓛 0 (slot_at 0 ended.signature.params) ended.kept.0 (λ κs x f. refl), (Goes-dropped 𝓛 0 (slot_at 1 ended.signature.params) ended.kept.1.0 (λ κs x f. refl), tt)) name fn (compiled.unfolded 𝓤 𝓛.H 𝓜 𝓡 wired) (λ z are.
+    proved_at 𝓛 ended stays c 𝓜 𝓡 (
+      Goes-dropped 𝓛 0 (slot_at 0 ended.signature.params) ended.kept.0 (λ κs x f. refl),
+      (Goes-dropped 𝓛 0 (slot_at 1 ended.signature.params) ended.kept.1.0 (λ κs x f. refl), tt),
+    ) name fn (compiled.unfolded 𝓤 𝓛.H 𝓜 𝓡 wired) (λ z are.
     let Post : Val → SProp 𝓤 = (walk_of 𝓛 ended stays c).post z in
     let a = z.0.3 in
     let vss = z.0.4 in
@@ -24,13 +28,15 @@ from_raw_parts_spec 𝓤 𝓛 𝓜 𝓡 wired =
     let n = a.1.0 in
     let fits = are.1.0.1 in
     let Asked : Type 0 = IsMemory p n in
-    qed 𝓛 ((raw (alive 𝓛 ended.signature z.0.0 z.0.1) ⊛ ‵ (owns (types_at ended.signature.params z.0.0) a vss)) ∷ (raw (fact 𝓤 Asked) ⊛ ‵ (bytes_at p n)) ∷ []) ∵
+    qed 𝓛 ((raw (alive 𝓛 ended.signature z.0.0 z.0.1) ⊛ ‵ (owns (types_at ended.signature.params z.0.0) a vss)) ∷ (raw (fact 𝓤 Asked) ⊛ ‵ (bytes_at p n))
+    ∷ []) ∵
     move ! (1 ∷ []) $ split ! $ heard ! Asked (λ asked. move ! (1 ∷ []) $ split ! $ keep ! (2 ∷ 0 ∷ []) $
     let x : (memory.the_row).Denot = record { ptr = p; size = n; fits = asked } in
     regoal ! (λ (us : List Val). prop (WpFn 𝓤 𝓛.H C Λ fn us Post)) (λ i. are.0 i ++ (are.1.0.0 i ++ [])) refl $
     enter ! C Λ fn (ptr_val p ∷ vint w64 n ∷ []) Post $
     alloc_all ! (λ l. pass_all ! refl ((ptr_typed p), ((tt, record { fits = fits }), tt)) $
-    sets ! (agg ! (and_then ! (get ! refl) (and_then ! (get ! refl) (no_more !)))) refl (and_tt _ ((ptr_typed p).0), ((ptr_typed p).1, (record { fits = fits }, tt))) $
+    sets ! (agg ! (and_then ! (get ! refl) (and_then ! (get ! refl) (no_more !)))) refl
+    (and_tt _ ((ptr_typed p).0), ((ptr_typed p).1, (record { fits = fits }, tt))) $
     returns ! (look_at ! 0 refl) $ free_all ! refl $
     use0 𝓛 (‵ (memory_own p n (memory_val p n ∷ []))) (memory_made 𝓛 p n fits) $ fjoin ! $
     use0 𝓛 (raw (fact 𝓤 ((p ≡ p) × (n ≡ n)))) (fact_i 𝓤 ((p ≡ p) × (n ≡ n)) (emp 𝓤) (refl, refl)) $

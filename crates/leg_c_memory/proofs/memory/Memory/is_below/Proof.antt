@@ -12,11 +12,15 @@ use Rattle.leg_c_memory.proofs.memory.Memory.is_below.Code as compiled
 pub is_below_spec : {M : Type 1} → statement M
 is_below_spec 𝓤 𝓛 𝓜 𝓡 wired =
     let fn : Fn = compiled.function in
-    let stays : Stays ended.signature.params ended.kept = (stay_dropped (slot_at 0 ended.signature.params) ended.kept.0, (stay_dropped (slot_at 1 ended.signature.params) ended.kept.1.0, tt)) in
+    let stays : Stays ended.signature.params ended.kept =
+    (stay_dropped (slot_at 0 ended.signature.params) ended.kept.0, (stay_dropped (slot_at 1 ended.signature.params) ended.kept.1.0, tt)) in
     let c = clauses 𝓛 𝓜.mem 𝓡.returns in
     let C = (tables 𝓤 𝓛.H 𝓜 𝓡 𝓡.env).C in
     let Λ = (tables 𝓤 𝓛.H 𝓜 𝓡 𝓡.env).Λ in
-    proved_at 𝓛 ended stays c 𝓜 𝓡 (Goes-blank 𝓛 0 (slot_at 0 ended.signature.params) ended.kept.0 (λ κs x f. tt), (Goes-blank 𝓛 0 (slot_at 1 ended.signature.params) ended.kept.1.0 (λ κs x f. tt), tt)) name fn (compiled.unfolded 𝓤 𝓛.H 𝓜 𝓡 wired) (λ z are.
+    proved_at 𝓛 ended stays c 𝓜 𝓡 (
+      Goes-blank 𝓛 0 (slot_at 0 ended.signature.params) ended.kept.0 (λ κs x f. tt),
+      (Goes-blank 𝓛 0 (slot_at 1 ended.signature.params) ended.kept.1.0 (λ κs x f. tt), tt),
+    ) name fn (compiled.unfolded 𝓤 𝓛.H 𝓜 𝓡 wired) (λ z are.
     let Post : Val → SProp 𝓤 = (walk_of 𝓛 ended stays c).post z in
     let a = z.0.3 in
     let vss = z.0.4 in
@@ -32,7 +36,8 @@ is_below_spec 𝓤 𝓛 𝓜 𝓡 wired =
     let fits' = told'.1 in
     let Pair : RattleType = Tuple (memory.the_row ∷ memory.the_row ∷ []) in
     let Asked : Type 0 = block_of q ≡ block_of p in
-    qed 𝓛 ((raw (alive 𝓛 ended.signature z.0.0 z.0.1) ⊛ ‵ (owns (types_at ended.signature.params z.0.0) a vss)) ∷ raw (fact 𝓤 Asked) ∷ []) ∵ move ! (1 ∷ []) $ heard ! Asked (λ asked. split ! $ move ! (1 ∷ []) $
+    qed 𝓛 ((raw (alive 𝓛 ended.signature z.0.0 z.0.1) ⊛ ‵ (owns (types_at ended.signature.params z.0.0) a vss)) ∷ raw (fact 𝓤 Asked) ∷ []) ∵ move ! (1 ∷ []) $
+    heard ! Asked (λ asked. split ! $ move ! (1 ∷ []) $
     fsplit3 ! $ fsplit ! $ drop ! $ move ! (2 ∷ []) $ drop ! $ move ! (1 ∷ []) $ fsplit ! $ drop ! $
     in_a_block ! q (λ u. bytes_at u m) (id⊢ 𝓤 (never 𝓤)) (λ b' o' at'. move ! (1 ∷ []) $ in_a_block ! p (λ u. bytes_at u n) (id⊢ 𝓤 (never 𝓤)) (λ b o at.
     let start : Ptr = block_ptr b o in
@@ -43,7 +48,8 @@ is_below_spec 𝓤 𝓛 𝓜 𝓡 wired =
     let top' : o' + m < 2 ^ 63 = subst (λ (u : Ptr). count_of u + m < 2 ^ 63) at' y.fits.1 in
     let below : Bool = ltb o o' in
     rewrite ! 0 (λ (u : Ptr). ‵ (bytes_at u n)) (sym at) refl $ rewrite ! 1 (λ (u : Ptr). ‵ (bytes_at u m)) (sym at') refl $
-    regoal ! (λ (us : List Val). prop (WpFn 𝓤 𝓛.H C Λ fn us Post)) (λ i. (told.0 ∙ ap (λ (u : Ptr). memory_val u n ∷ []) at) i ++ ((told'.0 ∙ ap (λ (u : Ptr). memory_val u m ∷ []) lies) i ++ [])) refl $
+    regoal ! (λ (us : List Val). prop (WpFn 𝓤 𝓛.H C Λ fn us Post))
+    (λ i. (told.0 ∙ ap (λ (u : Ptr). memory_val u n ∷ []) at) i ++ ((told'.0 ∙ ap (λ (u : Ptr). memory_val u m ∷ []) lies) i ++ [])) refl $
     enter ! C Λ fn (memory_val start n ∷ memory_val place m ∷ []) Post $
     alloc_all ! (λ l. pass_all ! refl ((tt, (tt, (record { fits = fits }, tt))), ((tt, (tt, (record { fits = fits' }, tt))), tt)) $
     sets ! (of_opd ! (get_in ! (fld ! refl (stop !)) (sub ! 0 refl (whole !)))) refl (tt, tt) $
@@ -53,12 +59,16 @@ is_below_spec 𝓤 𝓛 𝓜 𝓡 wired =
     sets ! (bin ! (get ! refl) (get ! refl) (tests_order b o o' (omega arith) (omega arith))) refl (tt, tt) $
     sets ! (agg ! (and_then ! (get ! refl) (and_then ! (get ! refl) (no_more !)))) refl (tt, (tt, (record { fits = fits }, tt))) $
     sets ! (agg ! (and_then ! (get ! refl) (and_then ! (get ! refl) (no_more !)))) refl (tt, (tt, (record { fits = fits' }, tt))) $
-    sets ! (agg ! (and_then ! (get ! refl) (and_then ! (get ! refl) (no_more !)))) refl (tt, ((tt, (record { fits = fits }, tt)), ((tt, (record { fits = fits' }, tt)), tt))) $
-    sets ! (agg ! (and_then ! (get ! refl) (and_then ! (get ! refl) (no_more !)))) refl (tt, (tt, (((tt, (record { fits = fits }, tt)), ((tt, (record { fits = fits' }, tt)), tt)), tt))) $
+    sets ! (agg ! (and_then ! (get ! refl) (and_then ! (get ! refl) (no_more !)))) refl
+    (tt, ((tt, (record { fits = fits }, tt)), ((tt, (record { fits = fits' }, tt)), tt))) $
+    sets ! (agg ! (and_then ! (get ! refl) (and_then ! (get ! refl) (no_more !)))) refl
+    (tt, (tt, (((tt, (record { fits = fits }, tt)), ((tt, (record { fits = fits' }, tt)), tt)), tt))) $
     returns ! (look_at ! 0 refl) $ free_all ! refl $
     let v : Val = pair_val (memory_val start n) (memory_val place m) in
-    use0 𝓛 (‵ (memory_own p n (memory_val p n ∷ []))) (memory_made 𝓛 p n fits) $ rewrite ! 0 (λ (u : Ptr). ‵ (memory_own p n (memory_val u n ∷ []))) at refl $ fjoin ! $ move ! (1 ∷ []) $
-    use0 𝓛 (‵ (memory_own q m (memory_val q m ∷ []))) (memory_made 𝓛 q m fits') $ rewrite ! 0 (λ (u : Ptr). ‵ (memory_own q m (memory_val u m ∷ []))) lies refl $ fjoin ! $ move ! (1 ∷ 0 ∷ []) $
+    use0 𝓛 (‵ (memory_own p n (memory_val p n ∷ []))) (memory_made 𝓛 p n fits) $ rewrite ! 0 (λ (u : Ptr). ‵ (memory_own p n (memory_val u n ∷ []))) at refl $
+    fjoin ! $ move ! (1 ∷ []) $
+    use0 𝓛 (‵ (memory_own q m (memory_val q m ∷ []))) (memory_made 𝓛 q m fits') $
+    rewrite ! 0 (λ (u : Ptr). ‵ (memory_own q m (memory_val u m ∷ []))) lies refl $ fjoin ! $ move ! (1 ∷ 0 ∷ []) $
     use2 𝓛 (‵ (Pair.own_val (x, y) (v ∷ []))) (pair_of 𝓛 memory.the_row memory.the_row x y (memory_val start n) (memory_val place m)) $
     feq_i ! (List Val) (vbool below ∷ []) (vbool below ∷ []) refl $
     use2 𝓛 (‵ ((Tuple (bool ∷ Pair ∷ [])).own_val (below, (x, y)) (pair_val (vbool below) v ∷ []))) (pair_of 𝓛 bool Pair below (x, y) (vbool below) v) $

@@ -12,11 +12,15 @@ use Rattle.leg_c_memory.proofs.memory.Memory.join.Code as compiled
 pub join_spec : {M : Type 1} → statement M
 join_spec 𝓤 𝓛 𝓜 𝓡 wired =
     let fn : Fn = compiled.function in
-    let stays : Stays ended.signature.params ended.kept = (stay_dropped (slot_at 0 ended.signature.params) ended.kept.0, (stay_dropped (slot_at 1 ended.signature.params) ended.kept.1.0, tt)) in
+    let stays : Stays ended.signature.params ended.kept =
+    (stay_dropped (slot_at 0 ended.signature.params) ended.kept.0, (stay_dropped (slot_at 1 ended.signature.params) ended.kept.1.0, tt)) in
     let c = clauses 𝓛 𝓜.mem 𝓡.returns in
     let C = (tables 𝓤 𝓛.H 𝓜 𝓡 𝓡.env).C in
     let Λ = (tables 𝓤 𝓛.H 𝓜 𝓡 𝓡.env).Λ in
-    proved_at 𝓛 ended stays c 𝓜 𝓡 (Goes-blank 𝓛 0 (slot_at 0 ended.signature.params) ended.kept.0 (λ κs x f. tt), (Goes-blank 𝓛 0 (slot_at 1 ended.signature.params) ended.kept.1.0 (λ κs x f. tt), tt)) name fn (compiled.unfolded 𝓤 𝓛.H 𝓜 𝓡 wired) (λ z are.
+    proved_at 𝓛 ended stays c 𝓜 𝓡 (
+      Goes-blank 𝓛 0 (slot_at 0 ended.signature.params) ended.kept.0 (λ κs x f. tt),
+      (Goes-blank 𝓛 0 (slot_at 1 ended.signature.params) ended.kept.1.0 (λ κs x f. tt), tt),
+    ) name fn (compiled.unfolded 𝓤 𝓛.H 𝓜 𝓡 wired) (λ z are.
     let Post : Val → SProp 𝓤 = (walk_of 𝓛 ended stays c).post z in
     let a = z.0.3 in
     let vss = z.0.4 in
@@ -33,7 +37,8 @@ join_spec 𝓤 𝓛 𝓜 𝓡 wired =
     let Pair : RattleType = Tuple (memory.the_row ∷ memory.the_row ∷ []) in
     let Out : RattleType = type_at ended.signature.result z.0.0 in
     let Asked : Type 0 = block_of q ≡ block_of p in
-    qed 𝓛 ((raw (alive 𝓛 ended.signature z.0.0 z.0.1) ⊛ ‵ (owns (types_at ended.signature.params z.0.0) a vss)) ∷ raw (fact 𝓤 Asked) ∷ []) ∵ move ! (1 ∷ []) $ heard ! Asked (λ asked. split ! $ move ! (1 ∷ []) $
+    qed 𝓛 ((raw (alive 𝓛 ended.signature z.0.0 z.0.1) ⊛ ‵ (owns (types_at ended.signature.params z.0.0) a vss)) ∷ raw (fact 𝓤 Asked) ∷ []) ∵ move ! (1 ∷ []) $
+    heard ! Asked (λ asked. split ! $ move ! (1 ∷ []) $
     fsplit3 ! $ fsplit ! $ drop ! $ move ! (2 ∷ []) $ drop ! $ move ! (1 ∷ []) $ fsplit ! $ drop ! $
     in_a_block ! q (λ u. bytes_at u m) (id⊢ 𝓤 (never 𝓤)) (λ b' o' at'. move ! (1 ∷ []) $ in_a_block ! p (λ u. bytes_at u n) (id⊢ 𝓤 (never 𝓤)) (λ b o at.
     let start : Ptr = block_ptr b o in
@@ -46,9 +51,11 @@ join_spec 𝓤 𝓛 𝓜 𝓡 wired =
     let even = x.fits.0.1 in
     let even' = y.fits.0.1 in
     rewrite ! 1 (λ (k : ℕ). ‵ (bytes_at (block_ptr k o') m)) same refl $
-    regoal ! (λ (us : List Val). prop (WpFn 𝓤 𝓛.H C Λ fn us Post)) (λ i. (told.0 ∙ ap (λ (u : Ptr). memory_val u n ∷ []) at) i ++ ((told'.0 ∙ ap (λ (u : Ptr). memory_val u m ∷ []) lies) i ++ [])) refl $
+    regoal ! (λ (us : List Val). prop (WpFn 𝓤 𝓛.H C Λ fn us Post))
+    (λ i. (told.0 ∙ ap (λ (u : Ptr). memory_val u n ∷ []) at) i ++ ((told'.0 ∙ ap (λ (u : Ptr). memory_val u m ∷ []) lies) i ++ [])) refl $
     enter ! C Λ fn (memory_val start n ∷ memory_val place m ∷ []) Post $
-    alloc_all ! (λ l. pass_all ! refl ((tt, (tt, (record { fits = fits }, tt))), ((tt, (tt, (record { fits = fits' }, tt))), tt)) $ let En : Env 𝓤 𝓛.H = env fn.locals l in
+    alloc_all ! (λ l. pass_all ! refl ((tt, (tt, (record { fits = fits }, tt))), ((tt, (tt, (record { fits = fits' }, tt))), tt)) $
+    let En : Env 𝓤 𝓛.H = env fn.locals l in
     sets ! (of_opd ! (get_in ! (fld ! refl (stop !)) (sub ! 0 refl (whole !)))) refl (tt, tt) $
     sets ! (of_opd ! (get_in ! (fld ! refl (stop !)) (sub ! 1 refl (whole !)))) refl (tt, record { fits = fits }) $
     sets ! (of_opd ! (get_in ! (fld ! refl (stop !)) (sub ! 0 refl (whole !)))) refl (tt, tt) $
@@ -60,7 +67,8 @@ join_spec 𝓤 𝓛 𝓜 𝓡 wired =
     (λ yes. let touch : o + n ≡ o' = omega (arith, eqb→eq (n + o) o' yes) in
     sets ! (bin ! (get ! refl) (get ! refl) (record { fits = omega arith })) refl (tt, record { fits = omega arith }) $
     sets ! (agg ! (and_then ! (get ! refl) (and_then ! (get ! refl) (no_more !)))) refl (tt, (tt, (record { fits = omega arith }, tt))) $
-    sets_last ! (agg ! (and_then ! (lit ! tt) (and_then ! (get ! refl) (no_more !)))) refl (tt, (record { fits = lit< tt }, ((tt, (record { fits = omega arith }, tt)), tt))) $
+    sets_last ! (agg ! (and_then ! (lit ! tt) (and_then ! (get ! refl) (no_more !)))) refl
+    (tt, (record { fits = lit< tt }, ((tt, (record { fits = omega arith }, tt)), tt))) $
     exec ! C Λ En (after 3 (inside (head (after 4 fn.body)))) (out_of_block 𝓛 (then_runs 𝓛 C Λ En (after 5 fn.body) (at_ret En Post))) $
     sets_last ! (of_opd ! (get ! refl)) refl (tt, (record { fits = lit< tt }, ((tt, (record { fits = omega arith }, tt)), tt))) $
     exec ! C Λ En (after 5 fn.body) (at_ret En Post) $
@@ -77,18 +85,34 @@ join_spec 𝓤 𝓛 𝓜 𝓡 wired =
     (λ no.
     sets ! (agg ! (and_then ! (get ! refl) (and_then ! (get ! refl) (no_more !)))) refl (tt, (tt, (record { fits = fits }, tt))) $
     sets ! (agg ! (and_then ! (get ! refl) (and_then ! (get ! refl) (no_more !)))) refl (tt, (tt, (record { fits = fits' }, tt))) $
-    sets ! (agg ! (and_then ! (get ! refl) (and_then ! (get ! refl) (no_more !)))) refl (tt, ((tt, (record { fits = fits }, tt)), ((tt, (record { fits = fits' }, tt)), tt))) $
-    sets_last ! (agg ! (and_then ! (lit ! tt) (and_then ! (get ! refl) (no_more !)))) refl (tt, (record { fits = lit< tt }, (((tt, (record { fits = fits }, tt)), ((tt, (record { fits = fits' }, tt)), tt)), tt))) $
+    sets ! (agg ! (and_then ! (get ! refl) (and_then ! (get ! refl) (no_more !)))) refl
+    (tt, ((tt, (record { fits = fits }, tt)), ((tt, (record { fits = fits' }, tt)), tt))) $
+    sets_last ! (agg ! (and_then ! (lit ! tt) (and_then ! (get ! refl) (no_more !)))) refl
+    (tt, (record { fits = lit< tt }, (((tt, (record { fits = fits }, tt)), ((tt, (record { fits = fits' }, tt)), tt)), tt))) $
     exec ! C Λ En (after 3 (inside (head (after 4 fn.body)))) (out_of_block 𝓛 (then_runs 𝓛 C Λ En (after 5 fn.body) (at_ret En Post))) $
-    sets_last ! (of_opd ! (get ! refl)) refl (tt, (record { fits = lit< tt }, (((tt, (record { fits = fits }, tt)), ((tt, (record { fits = fits' }, tt)), tt)), tt))) $
+    sets_last ! (of_opd ! (get ! refl)) refl (
+      tt,
+      (
+        record { fits = lit< tt },
+        (((tt, (record { fits = fits }, tt)), ((tt, (record { fits = fits' }, tt)), tt)), tt),
+      ),
+    ) $
     exec ! C Λ En (after 5 fn.body) (at_ret En Post) $
-    sets ! (of_opd ! (get ! refl)) refl (tt, (record { fits = lit< tt }, (((tt, (record { fits = fits }, tt)), ((tt, (record { fits = fits' }, tt)), tt)), tt))) $
+    sets ! (of_opd ! (get ! refl)) refl (
+      tt,
+      (
+        record { fits = lit< tt },
+        (((tt, (record { fits = fits }, tt)), ((tt, (record { fits = fits' }, tt)), tt)), tt),
+      ),
+    ) $
     returns ! (look_at ! 0 refl) $ free_all ! refl $
     let v : Val = pair_val (memory_val start n) (memory_val place m) in
     rewrite ! 0 (λ (u : Ptr). ‵ (bytes_at u n)) (sym at) refl $
-    use0 𝓛 (‵ (memory_own p n (memory_val p n ∷ []))) (memory_made 𝓛 p n fits) $ rewrite ! 0 (λ (u : Ptr). ‵ (memory_own p n (memory_val u n ∷ []))) at refl $ fjoin ! $ move ! (1 ∷ []) $
+    use0 𝓛 (‵ (memory_own p n (memory_val p n ∷ []))) (memory_made 𝓛 p n fits) $ rewrite ! 0 (λ (u : Ptr). ‵ (memory_own p n (memory_val u n ∷ []))) at refl $
+    fjoin ! $ move ! (1 ∷ []) $
     rewrite ! 0 (λ (u : Ptr). ‵ (bytes_at u m)) (sym lies) refl $
-    use0 𝓛 (‵ (memory_own q m (memory_val q m ∷ []))) (memory_made 𝓛 q m fits') $ rewrite ! 0 (λ (u : Ptr). ‵ (memory_own q m (memory_val u m ∷ []))) lies refl $ fjoin ! $ move ! (1 ∷ 0 ∷ []) $
+    use0 𝓛 (‵ (memory_own q m (memory_val q m ∷ []))) (memory_made 𝓛 q m fits') $
+    rewrite ! 0 (λ (u : Ptr). ‵ (memory_own q m (memory_val u m ∷ []))) lies refl $ fjoin ! $ move ! (1 ∷ 0 ∷ []) $
     use2 𝓛 (‵ (Pair.own_val (x, y) (v ∷ []))) (pair_of 𝓛 memory.the_row memory.the_row x y (memory_val start n) (memory_val place m)) $
     use1 𝓛 (‵ (Out.own_val (Err (x, y)) (live 1 (vcons v vnil) ∷ []))) (err_of 𝓛 memory.the_row Pair (x, y) v) $
     use0 𝓛 (raw (fact 𝓤 ((x, y) ≡ (x, y)))) (fact_i 𝓤 ((x, y) ≡ (x, y)) (emp 𝓤) refl) $

@@ -1,12 +1,14 @@
 use Rattle.std.proofs.Common.{◌≡◌, sym, ◌∙◌, length, ◌-◌, slice_get}
 use Rattle.std.specs.Option.{option_copied}
-use Rattle.leg_design_common.proofs.ViaNumbers.{in_first, in_second, got_is}
+use Rattle.leg_lemmas.proofs.Places.{in_first}
+use Rattle.leg_design_common.proofs.ViaNumbers.{in_second, got_is}
 use Rattle.leg_design_common.proofs.known.Known.via_numbered.Goals as goal
 
 pub returns-then-number-of_library : goal.returns-then-number-of_library
 returns-then-number-of_library g c =
     let h = c.get.ensures.lookup in
-    let got : option_copied c.get.result ≡ slice_get c.vias-of_library.result.now c.args.number = got_is c.vias-of_library.result.now c.args.number c.get.result h.0 h.1 in
+    let got : option_copied c.get.result ≡ slice_get c.vias-of_library.result.now c.args.number =
+    got_is c.vias-of_library.result.now c.args.number c.get.result h.0 h.1 in
     rw (← c.self.view_is, ← c.vias-of_library.ensures.is)
     (got ∙ sym (in_first c.vias-of_library.result.now c.self.inside.vias.now c.args.number c.if-number-of_library.true))
 

@@ -20,8 +20,11 @@ returns-in-Some-clause-added g c =
     let within = (place_stands c.args.name.now names c.in-Some.place found).within in
     let less : c.in-Some.place < length lists = let long = c.self.invariant in grind (arith, within, long) in
     let size : c.self.inside.lists.len ≡ length lists = grind (arith, common_steps) in
-    let put = c.in_ok-add_number.ensures.added ∙ ap (λ (xs : List (List ℕ)). slice_set xs c.in-Some.place (get_or xs c.in-Some.place [] ++ c.args.number ∷ [])) c.deref_mut.ensures.value in
-    added_found lists c.in-Some.place c.args.number less names c.args.name.now _ found (written lists c.in-Some.place c.args.number less c.add_number.new.lists c.self.inside.lists.len put size)
+    let put =
+    c.in_ok-add_number.ensures.added
+    ∙ ap (λ (xs : List (List ℕ)). slice_set xs c.in-Some.place (get_or xs c.in-Some.place [] ++ c.args.number ∷ [])) c.deref_mut.ensures.value in
+    added_found lists c.in-Some.place c.args.number less names c.args.name.now _ found
+    (written lists c.in-Some.place c.args.number less c.add_number.new.lists c.self.inside.lists.len put size)
 
 pub returns-in-Some-clause-kept : goal.returns-in-Some-clause-kept
 returns-in-Some-clause-kept g c = λ other n is.
@@ -31,8 +34,11 @@ returns-in-Some-clause-kept g c = λ other n is.
     let within = (place_stands c.args.name.now names c.in-Some.place found).within in
     let less : c.in-Some.place < length lists = let long = c.self.invariant in grind (arith, within, long) in
     let size : c.self.inside.lists.len ≡ length lists = grind (arith, common_steps) in
-    let put = c.in_ok-add_number.ensures.added ∙ ap (λ (xs : List (List ℕ)). slice_set xs c.in-Some.place (get_or xs c.in-Some.place [] ++ c.args.number ∷ [])) c.deref_mut.ensures.value in
-    kept_found lists c.in-Some.place c.args.number less names _ (written lists c.in-Some.place c.args.number less c.add_number.new.lists c.self.inside.lists.len put size) other n (rw (← c.self.view_is) at is)
+    let put =
+    c.in_ok-add_number.ensures.added
+    ∙ ap (λ (xs : List (List ℕ)). slice_set xs c.in-Some.place (get_or xs c.in-Some.place [] ++ c.args.number ∷ [])) c.deref_mut.ensures.value in
+    kept_found lists c.in-Some.place c.args.number less names _
+    (written lists c.in-Some.place c.args.number less c.add_number.new.lists c.self.inside.lists.len put size) other n (rw (← c.self.view_is) at is)
 
 pub returns-clause-added : goal.returns-clause-added
 returns-clause-added g c =
@@ -50,4 +56,5 @@ returns-clause-kept g c = λ other n is.
     let none : place_of c.args.name.now names ≡ None = sym c.place_of.ensures ∙ c.in_default.is in
     let named : c.push-2.new.self ≡ names ++ c.args.name.now ∷ [] = grind (arith, common_steps) in
     let put : c.push-3.new.self.items ≡ lists ++ (c.args.number ∷ []) ∷ [] = grind (arith, common_steps) in
-    new_name_kept names lists c.args.name.now c.args.number c.self.invariant none c.push-2.new.self c.push-3.new.self.items named put other n (rw (← c.self.view_is) at is)
+    new_name_kept names lists c.args.name.now c.args.number c.self.invariant none c.push-2.new.self c.push-3.new.self.items named put other n
+    (rw (← c.self.view_is) at is)

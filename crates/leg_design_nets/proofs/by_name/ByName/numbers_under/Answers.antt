@@ -17,4 +17,5 @@ returns-in-Some g c =
     let found : place_of c.args.name.now c.self.inside.names ≡ Some c.in-Some.place = sym c.place_of.ensures ∙ c.in-Some.is in
     let within = (place_stands c.args.name.now c.self.inside.names c.in-Some.place found).within in
     let less : c.in-Some.place < length c.self.inside.lists.items = let long = c.self.invariant in grind (arith, common_steps, within, long) in
-    rw (← c.self.view_is) (c.as_slice.ensures ∙ under_found c.self.inside.names c.self.inside.lists.items c.args.name.now c.in-Some.place c.index.result.now found less c.index.ensures)
+    rw (← c.self.view_is) (c.as_slice.ensures
+    ∙ under_found c.self.inside.names c.self.inside.lists.items c.args.name.now c.in-Some.place c.index.result.now found less c.index.ensures)

@@ -7,4 +7,5 @@ pub returns : goal.returns
 returns g c =
     c.in_ok-terminals.ensures
     ∙ (ap (pins_of_these c.args.self.now c.args.name.now) c.deref.ensures.value
-    ∙ pins_are_all c.args.self.now c.args.name.now c.put_in_order.new.numbers.items c.put_in_order.ensures.rising (λ n has. c.put_in_order.ensures.all n (c.in_ok-numbers.ensures n has)))
+    ∙ pins_are_all c.args.self.now c.args.name.now c.put_in_order.new.numbers.items c.put_in_order.ensures.rising
+    (λ n has. c.put_in_order.ensures.all n (c.in_ok-numbers.ensures n has)))

@@ -15,7 +15,9 @@ loop-number-preserved g c =
     let found = c.loop-number.terminals.items in
     elim c.match-pin_of_numbered.branch [
       | in-Some+in_ok-push w ↦
-          rw w.terminals-is (sym (one_has c.args.self.now c.args.name.now found w.push.new.self.items numbers i n w.in-Some.pin less same (sym c.pin_of_numbered.ensures.is ∙ w.in-Some.is) w.in_ok-push.ensures.items) ∙ c.loop-number.invariant)
+          rw w.terminals-is (sym (one_has c.args.self.now c.args.name.now found w.push.new.self.items numbers i n w.in-Some.pin less same
+          (sym c.pin_of_numbered.ensures.is ∙ w.in-Some.is) w.in_ok-push.ensures.items) ∙ c.loop-number.invariant)
       | in_default w ↦
-          rw w.terminals-is (sym (one_has_not c.args.self.now c.args.name.now found numbers i n less same (sym c.pin_of_numbered.ensures.is ∙ w.in_default.is)) ∙ c.loop-number.invariant)
+          rw w.terminals-is (sym (one_has_not c.args.self.now c.args.name.now found numbers i n less same (sym c.pin_of_numbered.ensures.is ∙ w.in_default.is))
+          ∙ c.loop-number.invariant)
     ]

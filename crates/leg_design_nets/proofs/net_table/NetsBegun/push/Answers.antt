@@ -16,7 +16,9 @@ invariant_of-self-2 g c =
     let more : c.push-2.new.self.items ≡ begun ++ c.args.terminal ∷ [] = grind (arith, common_steps) in
     record {
       named = c.self.invariant.named;
-      indexed = index_begun (number_of c.self.inside.index.numbers) (number_of c.reserve-2.new.self.numbers) (number_of c.push.new.self.numbers) nets begun c.push-2.new.self.items c.args.terminal c.len.result c.self.invariant.indexed c.reserve-2.ensures.same c.push.ensures last more before here;
+      indexed = index_begun (number_of c.self.inside.index.numbers) (number_of c.reserve-2.new.self.numbers)
+          (number_of c.push.new.self.numbers) nets begun c.push-2.new.self.items c.args.terminal c.len.result c.self.invariant.indexed c.reserve-2.ensures.same
+          c.push.ensures last more before here;
       listed = c.self.invariant.listed;
       wired = c.self.invariant.wired;
     }

@@ -22,9 +22,17 @@ invariant_of-self g c =
     let new = c.append_to_all.new.nets in
     let value = c.as_mut_slice.ensures.value in
     let are : new ≡ with_more_wires old lists = rw value at c.in-Ok.ensures.appended in
-    let long : length new ≡ c.self-inside.inside.0.0.nets.len = ap length are ∙ each_with_length _ old lists ∙ sym (ap length value) ∙ c.as_mut_slice.ensures.len in
-    let names = ap (λ d. d.special_names) c.self-inside.view_is ∙ c.self.invariant.1 ∙ ap (λ d. net_names d.fields.special) (sym c.self-inside.view_is) in
-    (rw (take_at new (drop (length new) old) c.self-inside.inside.0.0.nets.len long, are) (all_stay_well_formed _ lists (record { spelled = All-map (All (IsWire c.self-inside.inside.0.0.library.now c.self-inside.inside.0.0.vias.items false)) (λ w. w.items) c.args.lists.items spelled; few = few }) (subst IsWellFormed (sym inside) c.self.invariant.0)), names)
+    let long : length new ≡ c.self-inside.inside.0.0.nets.len =
+    ap length are ∙ each_with_length _ old lists ∙ sym (ap length value) ∙ c.as_mut_slice.ensures.len in
+    let names = ap (λ d. d.special_names) c.self-inside.view_is ∙ c.self.invariant.1 ∙ ap (λ d. net_names d.fields.special) (sym c.self-inside.view_is) in (
+      rw (take_at new (drop (length new) old) c.self-inside.inside.0.0.nets.len long, are)
+          (all_stay_well_formed _ lists (record {
+            spelled = All-map (All (IsWire c.self-inside.inside.0.0.library.now c.self-inside.inside.0.0.vias.items false))
+                (λ w. w.items) c.args.lists.items spelled;
+            few = few;
+          }) (subst IsWellFormed (sym inside) c.self.invariant.0)),
+      names,
+    )
 
 pub invariant_of-self-in-Err : goal.invariant_of-self-in-Err
 invariant_of-self-in-Err g c =

@@ -1,13 +1,14 @@
 -- The flat has the wire's shapes behind the others, and keeps its limits.
 use Rattle.std.proofs.Common.{rules, ◌≡◌, ◌++◌, ◌∷◌, [], ◌<◌, ◌∙◌, List, false, length, set, sym, ap, subst, arith}
 use Rattle.std.proofs.lemmas.List.{get_or_default}
+use Rattle.leg_lemmas.proofs.Options.{on_err_anyway}
 use Rattle.leg_rules.specs.declared.piece.Piece.{Piece}
 use Rattle.leg_rules.specs.declared.piece.Piece.TheVariants.{Wire}
 use Rattle.leg_rules.specs.declared.shape.Shape.{Shape}
 use Rattle.leg_rules.specs.Metal.Flat.{FlatModel}
 use Rattle.leg_rules.specs.Metal.MoreWires.{HasOneMoreWire}
 use Rattle.leg_flat.proofs.MetalLines.{wire_within}
-use Rattle.leg_flat.proofs.OneMoreWire.{some_outlines, metal_count, GetsWire, is_within, has_more, same_pieces, has_pieces, on_err_anyway}
+use Rattle.leg_flat.proofs.OneMoreWire.{some_outlines, metal_count, GetsWire, is_within, has_more, same_pieces, has_pieces}
 use Rattle.leg_flat.proofs.flat.Flat.add_wire.Given.{Over}
 use Rattle.leg_flat.proofs.flat.Flat.add_wire.Goals as goal
 

@@ -3,10 +3,7 @@ use Rattle.std.proofs.lemmas.Int.{ints, to_z-of_z, fits_signed_from_abs}
 use Rattle.std.specs.Int.{int_div_euclid}
 use Rattle.leg_geom.specs.Plane.{IsCoordinate, IsHalfway, halfway}
 use Rattle.leg_geom.proofs.span.Span.middle.Goals as goal
-
--- the sum of two coordinates fits
-sum_fits : (a b : ℤ) → IsCoordinate a → IsCoordinate b → FitsSigned w64 (a +ℤ b)
-sum_fits a b la lb = fits_signed_from_abs w64 (a +ℤ b) (omega (arith, ints))
+use Rattle.leg_geom.proofs.Coordinates.{sum_fits}
 
 sum_is : (a b : ℤ) → IsCoordinate a → IsCoordinate b → to_z w64 (of_z w64 a) +ℤ to_z w64 (of_z w64 b) ≡ a +ℤ b
 sum_is a b la lb =

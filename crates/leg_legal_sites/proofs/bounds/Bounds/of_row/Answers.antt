@@ -1,9 +1,10 @@
 -- The first and the last free site bound them all.
 use Rattle.std.proofs.Common.{◌≡◌, ◌+◌, ◌-◌, pos, ◌+ℤ◌, ◌*ℤ◌, refl, arith}
 use Rattle.leg_geom.specs.Plane.{IsCoordinate}
+use Rattle.leg_geom.proofs.Coordinates.{sum_fits}
 use Rattle.leg_legal_sites.specs.Steps.Parts.{all_of}
 use Rattle.leg_legal_sites.proofs.MetSites.{coordinate_passed}
-use Rattle.leg_legal_sites.proofs.RowBounds.{bound_nothing, bound_row, sum_fits, sum_passed}
+use Rattle.leg_legal_sites.proofs.RowBounds.{bound_nothing, bound_row, sum_passed}
 use Rattle.leg_legal_sites.proofs.bounds.Bounds.of_row.Goals as goal
 
 pub returns-in_default : goal.returns-in_default

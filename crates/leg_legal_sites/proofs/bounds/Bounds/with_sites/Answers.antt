@@ -3,9 +3,10 @@ use Rattle.std.proofs.Common.{◌≡◌, ◌+◌, ◌-◌, pos, ◌+ℤ◌, ◌*
 use Rattle.std.specs.Int.{saturate_signed}
 use Rattle.std.proofs.lemmas.Int.{ints}
 use Rattle.leg_geom.specs.Plane.{IsCoordinate}
+use Rattle.leg_geom.proofs.Coordinates.{sum_fits}
 use Rattle.leg_legal_sites.specs.Steps.Parts.{all_of}
 use Rattle.leg_legal_sites.proofs.MetSites.{coordinate_passed}
-use Rattle.leg_legal_sites.proofs.RowBounds.{bound_nothing, bound_alike, saturated_upto, sum_fits}
+use Rattle.leg_legal_sites.proofs.RowBounds.{bound_nothing, bound_alike, saturated_upto}
 use Rattle.leg_legal_sites.proofs.bounds.Bounds.with_sites.Goals as goal
 
 pub returns-in_default : goal.returns-in_default

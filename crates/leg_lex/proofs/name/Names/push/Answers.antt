@@ -10,6 +10,7 @@ invariant_of-self-2 g c =
     let last : c.len.result ≡ length names = grind (arith, common_steps) in
     let more : c.push.new.self.items ≡ names ++ c.args.name.now ∷ [] = grind (arith, common_steps) in
     let new : place_of c.args.name.now names ≡ None = rw c.self.view_is c.requires in (
-      λ name. index_push c.args.name c.self.inside.index c.insert.new.self names c.push.new.self.items c.len.result new c.self.invariant.0 c.in_ok-insert.ensures.updates last more name,
+      λ name. index_push c.args.name c.self.inside.index c.insert.new.self names c.push.new.self.items c.len.result new c.self.invariant.0
+          c.in_ok-insert.ensures.updates last more name,
       subst AreApart (sym more) (apart_push c.args.name.now names new c.self.invariant.1),
     )

@@ -33,9 +33,9 @@ module _ (row : Row) (size : ExtentModel) (die : RectModel) where
   clear_inside box inside = record { inside = inside; alone = λ other never. absurd never }
 
   -- a row begins with its sites in the die
-  pub known_at_first : (sites : Stretch) (free : List Stretch) → AreSitesInside row size die sites
+  pub free_at_first : (sites : Stretch) (free : List Stretch) → AreSitesInside row size die sites
       → ((k : ℕ) → IsFreeSite free k ↔ ((sites.from ≤ k) × (k < sites.end))) → IsFreeList row size die NoneTaken free
-  known_at_first sites free inside begun k = (
+  free_at_first sites free inside begun k = (
     λ site.
         let among = (begun k).0 site in
         let within = (inside k).0 (record { above = among.0; below = among.1 }) in
@@ -44,9 +44,9 @@ module _ (row : Row) (size : ExtentModel) (die : RectModel) where
   )
 
   -- the list says the same of boxes that are taken by another description
-  pub known_same : (Taken Others : RectModel → Type 0) (free : List Stretch) → ((box : RectModel) → Taken box ↔ Others box) → IsFreeList row size die Taken free
+  pub free_same : (Taken Others : RectModel → Type 0) (free : List Stretch) → ((box : RectModel) → Taken box ↔ Others box) → IsFreeList row size die Taken free
       → IsFreeList row size die Others free
-  known_same Taken Others free same known k = (
+  free_same Taken Others free same known k = (
     λ site. let was = (known k).0 site in (was.0, record { inside = was.1.inside; alone = λ other taken. was.1.alone other ((same other).1 taken) }),
     λ clear. (known k).1 (clear.0, record { inside = clear.1.inside; alone = λ other taken. clear.1.alone other ((same other).0 taken) }),
   )
