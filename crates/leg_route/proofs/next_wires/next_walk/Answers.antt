@@ -50,7 +50,8 @@ walk_further-requires-clause-ends g c =
     let joined = c.args.part.now.joined.items in
     let boxes = c.in_ok-ends.ends.boxes.items in
     let ends = c.in_ok-ends.ends.slots.items in
-    let told : AreMarkedSlots grid flat.shapes joined false numbers boxes ends = rw c.shapes-shapes.ensures.is at c.in_ok-ends.ensures in
+    let told : AreMarkedSlots grid flat.shapes joined false numbers boxes ends =
+    rw (c.shapes-shapes.ensures.is, c.deref-2.ensures.value) at c.in_ok-ends.ensures in
     ends_are flat c.args.net numbers c.requires.numbers joined c.requires.joined grid boxes ends told
 
 pub returns-in-Some-clause-part : goal.returns-in-Some-clause-part
