@@ -4,7 +4,8 @@ use Rattle.std.proofs.lemmas.Bool.{cases_eq, cases_lt}
 use Rattle.std.proofs.lemmas.List.{append-nil, drop_all, take_all, length-set, length_push, get_or-set_same, get_or-set_other, get_or_append_left, get_or_default, get_or_at, get_or_past}
 use Rattle.std.proofs.lemmas.List.Elements.{All-contains, Contains-push, Contains-push_cases, Contains-append_left, Contains-append_right, Contains-append_cases}
 use Rattle.std.proofs.lemmas.Option.{same_Some, slice_get_within, slice_get-get_or, slice_get_read, get_or_from_slice_get}
-use Rattle.leg_sweep.proofs.Lists.{All-from_contains, AllPairs-nil, AllPairs-append, Contains-nil}
+use Rattle.leg_sweep.proofs.Lists.{All-from_contains, AllPairs-nil, Contains-nil}
+use Rattle.leg_lemmas.proofs.Rising.{AllPairs-append}
 use Rattle.leg_wire.specs.Steps.Kinds.{AreMembers}
 use Rattle.leg_wire.specs.Steps.NumberSets.{IsMerged, AreTogether, AreGroups, HasGrown, IsOneList, AreListsMerged}
 use Rattle.leg_wire.specs.Steps.NumberSets.IsOneList.{behind, before}
