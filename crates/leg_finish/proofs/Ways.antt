@@ -2,10 +2,10 @@
 use Rattle.std.proofs.Common.{◌≡◌, ◌↔◌, ℕ, List, [], Contains, Option, None, Some, Bool, true, false, not, IsTrue, is_some, option_map, subst, refl}
 use Rattle.std.specs.List.{AllZip}
 use Rattle.std.proofs.lemmas.Bool.{true≢false, false≢true}
-use Rattle.leg_sweep.proofs.Lists.{Contains-nil}
+use Rattle.leg_lemmas.proofs.Contained.{Contains-nil}
 use Rattle.leg_rules.specs.Metal.Flat.{FlatModel}
 use Rattle.leg_route_search.specs.Steps.Walks.{IsStep, IsShortestIfAny}
-use Rattle.leg_rules.specs.Route.Walk.{Walk, here, on, IsShortest, NoWalk}
+use Rattle.leg_rules.specs.Route.Walk.{IsShortest, NoWalk}
 use Rattle.leg_rules.specs.declared.node.Node.{Node}
 use Rattle.leg_route_grid.specs.declared.slot_access.SlotAccess.{SlotAccess}
 use Rattle.leg_route_grid.specs.declared.slot_box.SlotBox.{SlotBox}
@@ -15,17 +15,8 @@ use Rattle.leg_route_grid.specs.Steps.WalkBounds.{IsNeighbourNear}
 use Rattle.leg_route_grid.specs.Steps.Grid.{GridModel, IsNumberOf}
 use Rattle.leg_route_grid.specs.Steps.AccessToNet.{IsNodeAdmitted, IsStepAdmitted}
 use Rattle.leg_route_grid.specs.Steps.NodeNumbers.{IsOneOf, IsNodeAmong}
+use Rattle.leg_route_grid.proofs.TableNumbers.{walk_first, walk_last}
 use Rattle.leg_finish.specs.Steps.Reach.{HasNoWay}
-
--- both ends of a walk are open
-module _ {Point : Type 0} {Open : Point → Type 0} {Step : Point → Point → Type 0} where
-  walk_first : {a b : Point} {nodes : List Point} → Walk Open Step a nodes b → Open a
-  walk_first (here is_open) = is_open
-  walk_first (on is_open step rest) = is_open
-
-  walk_last : {a b : Point} {nodes : List Point} → Walk Open Step a nodes b → Open b
-  walk_last (here is_open) = is_open
-  walk_last (on is_open step rest) = walk_last rest
 
 module _ (grid : GridModel) (apart : (n : ℕ) (a b : Node) → IsNumberOf grid n a → IsNumberOf grid n b → a ≡ b)
     (numbered : (a : Node) → IsNode grid.design a → (n : ℕ) × IsNumberOf grid n a) where

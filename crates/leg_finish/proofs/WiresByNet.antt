@@ -3,6 +3,7 @@ use Rattle.std.proofs.Common.{◌≡◌, ◌≢◌, ◌<◌, ℕ, zero, suc, fal
 use Rattle.std.proofs.lemmas.Bool.{cases_eq}
 use Rattle.std.proofs.lemmas.List.Elements.{All-nil, All-append, All-set, All-replicate, All-contains}
 use Rattle.std.proofs.lemmas.Option.{none-some, same_Some, slice_get_within, get_or_from_slice_get}
+use Rattle.leg_lemmas.proofs.Places.{set_elsewhere}
 use Rattle.leg_design_records.specs.declared.records.Wire.{Wire}
 use Rattle.leg_design_records.specs.Records.{DesignModel}
 use Rattle.leg_design_records.specs.WellFormedNets.{IsWire}
@@ -11,7 +12,6 @@ use Rattle.leg_rules.specs.Joins.Violations.{IsOpenNet}
 use Rattle.leg_route_laws.specs.Finished.{AreByNet}
 use Rattle.leg_route_laws.specs.Growth.{AddedWire, Grows, of_net}
 use Rattle.leg_finish.specs.Steps.Judgement.{IsLaidOut, IsMoreLaid}
-use Rattle.leg_route_laws.proofs.Places.{set_elsewhere}
 
 abbrev pub NoWiresByNet : Type 0
 NoWiresByNet = (count : ℕ) → AreByNet count [] (replicate count [])

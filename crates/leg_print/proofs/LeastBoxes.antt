@@ -1,7 +1,8 @@
 -- Least boxes: there is one at most, two join to that round both, and it is the same round the same points.
-use Rattle.std.proofs.Common.{◌≡◌, ◌⊎◌, inl, inr, ℤ, pos, ◌≤ℤ◌, Option, None, Some, refl, ap, arith}
+use Rattle.std.proofs.Common.{◌≡◌, ◌⊎◌, inl, inr, pos, ◌≤ℤ◌, Option, None, Some, refl, ap, arith}
 use Rattle.std.proofs.lemmas.Int.{ints, clamps}
 use Rattle.leg_geom.specs.Plane.{PointModel, RectModel, HasPoint, HasAllPoints}
+use Rattle.leg_geom.proofs.Points.{same_sides}
 use Rattle.leg_rules.specs.Wirelength.{IsLeastBox, IsLeastBoxIfAny}
 use Rattle.leg_print.specs.Steps.Wirelength.{joined, joined_if_any}
 
@@ -32,12 +33,6 @@ within outer inner wide high all =
     let low = all _ (has_lower_left inner wide high) in
     let up = all _ (has_upper_right inner wide high) in
     record { x1 = low.left; y1 = low.bottom; x2 = up.right; y2 = up.top }
-
-abbrev pub sides : ℤ → ℤ → ℤ → ℤ → RectModel
-sides x1 y1 x2 y2 = record { x1 = x1; y1 = y1; x2 = x2; y2 = y2 }
-
-pub same_sides : (x1 y1 x2 y2 u1 v1 u2 v2 : ℤ) → x1 ≡ u1 → y1 ≡ v1 → x2 ≡ u2 → y2 ≡ v2 → sides x1 y1 x2 y2 ≡ sides u1 v1 u2 v2
-same_sides x1 y1 x2 y2 u1 v1 u2 v2 e f g h = cc
 
 each_within : (a b : RectModel) → IsWithin a b → IsWithin b a → a ≡ b
 each_within a b p q = same_sides _ _ _ _ _ _ _ _ (omega (arith, ints)) (omega (arith, ints)) (omega (arith, ints)) (omega (arith, ints))

@@ -7,6 +7,7 @@ use Rattle.std.proofs.lemmas.List.FromFn.{map-range_with_len_more}
 use Rattle.std.proofs.lemmas.List.Elements.{Contains-append_left, Contains-append_right, Contains-append_cases}
 use Rattle.leg_geom.specs.Plane.{PointModel, RectModel}
 use Rattle.leg_lib_records.specs.Scale.{OneForOne}
+use Rattle.leg_lib_records.proofs.OneEach.{push_pair}
 use Rattle.leg_design_records.specs.declared.records.Terminal.{Terminal}
 use Rattle.leg_design_records.specs.Terminals.{is_among}
 use Rattle.leg_design_records.specs.Records.{DesignModel, NetModel}
@@ -97,13 +98,6 @@ range_more : (a n : ℕ) → range_with_len a (n + 1) ≡ range_with_len a n ++ 
 range_more a n =
     sym (map-id (range_with_len a (n + 1))) ∙ map-range_with_len_more (λ (k : ℕ). k) a n (a + n) refl
     ∙ ap (λ ks. ks ++ (a + n) ∷ []) (map-id (range_with_len a n))
-
-push_pair : {X Y : Type 0} (R : X → Y → Type 0) (xs : List X) (ys : List Y) (x : X) (y : Y) → OneForOne R xs ys → R x y
-    → OneForOne R (xs ++ x ∷ []) (ys ++ y ∷ [])
-push_pair R [] [] x y before is = (is, tt)
-push_pair R [] (z ∷ ys) x y before is = absurd before
-push_pair R (w ∷ xs) [] x y before is = absurd before
-push_pair R (w ∷ xs) (z ∷ ys) x y before is = (before.0, push_pair R xs ys x y before.1 is)
 
 -- the lengths of the first nets, and their sum
 pub record AreLengths (design : DesignModel) (count total : ℕ) : Type 0 where

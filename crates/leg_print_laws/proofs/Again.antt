@@ -4,6 +4,7 @@ use Rattle.std.specs.List.{list_any, flat_map, slice_split}
 use Rattle.std.proofs.lemmas.List.{append_assoc, append-nil}
 use Rattle.std.proofs.lemmas.List.Elements.{All-head, All-tail}
 use Rattle.std.proofs.lemmas.List.Splits.{slice_split-cons_yes, slice_split-cons_no}
+use Rattle.std.proofs.lemmas.Option.{same_Some}
 use Rattle.leg_lex.specs.Words.{Words}
 use Rattle.leg_lex.specs.Statements.{is_semicolon, is_plus, up_to, statement_at, clauses_of}
 use Rattle.leg_lex.specs.Until.{steps, until, over}
@@ -72,13 +73,10 @@ module _ {S X : Type 0} (stop : Words → Bool) (form : S → Words → Option (
       ∙ later ∙ ap (λ all. Some (made all, last)) e
 
 -- The same over a list that is taken element by element.
-some_same : {S : Type 0} (a b : S) → Some a ≡ Some b → a ≡ b
-some_same a b is = cc
-
 pub over_append : {S X : Type 0} (step : S → X → Option S) (xs ys : List X) (made next : S) → over step made xs ≡ Some next
     → over step made (xs ++ ys) ≡ over step next ys
 unfolding over
-over_append step [] ys made next is = ap (λ m. over step m ys) (some_same made next is)
+over_append step [] ys made next is = ap (λ m. over step m ys) (same_Some made next is)
 over_append {S} step (x ∷ xs) ys made next is = by (step made x) refl (λ more. over_append step xs ys more next) where
   by : (said : Option S) → step made x ≡ said → ((more : S) → over step more xs ≡ Some next → over step more (xs ++ ys) ≡ over step next ys)
       → over step made ((x ∷ xs) ++ ys) ≡ over step next ys

@@ -3,7 +3,7 @@ use Rattle.std.proofs.Common.{◌≡◌, ℕ, ◌+◌, ◌<◌, ◌≤◌, true,
 use Rattle.std.specs.List.{list_all, flat_map}
 use Rattle.std.proofs.lemmas.List.{append_assoc}
 use Rattle.std.proofs.lemmas.List.Elements.{All-head, All-weaker}
-use Rattle.std.proofs.lemmas.Bool.Decides.{nat_tests}
+use Rattle.std.proofs.lemmas.Bool.{lt-ltb, le-leb}
 use Rattle.leg_lex.specs.declared.limits.TheConstants.{NUMBER_LIMIT}
 use Rattle.leg_lex.specs.Words.{Words, next_at, keyword_at, mark_at}
 use Rattle.leg_lex.specs.Until.{until}
@@ -71,14 +71,8 @@ stays_kept library (Some layer) is = is
 room : (blockage : BlockageModel) (front : List BlockageModel) → length front < ENTRY_LIMIT
     → rect_count front + length blockage.rects ≤ PART_LIMIT → is_room_for blockage front ≡ true
 room blockage front few few_rects = met (length front) ENTRY_LIMIT (rect_count front + length blockage.rects) PART_LIMIT few few_rects where
-  fewer_is : (n limit : ℕ) → n < limit → nat_lt n limit ≡ true
-  fewer_is n limit less = grind (arith, nat_tests)
-
-  no_more_is : (n limit : ℕ) → n ≤ limit → nat_le n limit ≡ true
-  no_more_is n limit le = grind (arith, nat_tests)
-
   met : (a b c d : ℕ) → a < b → c ≤ d → (nat_lt a b && nat_le c d) ≡ true
-  met a b c d less le = rw (fewer_is a b less, no_more_is c d le) refl
+  met a b c d less le = rw (lt-ltb a b less, le-leb c d le) refl
 
 -- the rectangles of entries before one, and its own, are no more than all
 rects_before : (before : List BlockageModel) (blockage : BlockageModel) (after : List BlockageModel)

@@ -1,6 +1,7 @@
 -- The entry of a component is read as the component, and the section as all of them.
 use Rattle.std.proofs.Common.{◌≡◌, ℕ, ◌<◌, ◌≤◌, true, false, List, [], ◌∷◌, ◌++◌, length, get_or, None, Some, codes, IsTrue, refl, subst, arith}
 use Rattle.std.specs.List.{list_all, flat_map}
+use Rattle.leg_lemmas.proofs.Places.{there_is}
 use Rattle.leg_lex.specs.Words.{Words, next_at, mark_at, name_at, nothing_at, is_name}
 use Rattle.leg_lex.specs.NameLookup.{place_of, AreApart}
 use Rattle.leg_lex.specs.Statements.{at_end}
@@ -26,7 +27,7 @@ use Rattle.leg_print_laws.specs.PrintedNames.{StayOne, component_entry_names}
 use Rattle.leg_print_laws.specs.Forms.{DenotesForm}
 use Rattle.leg_print_laws.proofs.FreeWords.{AreInside, AreFree, free_literal, free_name, free_nil, free_cons, inside_cons, inside_append}
 use Rattle.leg_print_laws.proofs.Again.{said_again, clause_again}
-use Rattle.leg_print_laws.proofs.NumberedNames.{element, found, name_is, not_before, middle, fewer_before, each_passes}
+use Rattle.leg_print_laws.proofs.NumberedNames.{found, name_is, not_before, middle, fewer_before, each_passes}
 use Rattle.leg_print_laws.proofs.Placements.{placement_again, placement_free}
 use Rattle.leg_print_laws.proofs.PrintableWords.{said_printable, line_says}
 
@@ -34,7 +35,7 @@ module _ (design : DesignModel) (sound : IsSound design.library) (component : Co
   master : (m : MasterModel) × (IsTrue (is_name (master_name design component.master)))
       × (place_of (master_name design component.master) (master_names design.library) ≡ Some component.master)
   master =
-      let there = element design.library.masters component.master is.master in (
+      let there = there_is design.library.masters component.master is.master in (
         there.0,
         rw (there.1) (name_is (λ (m : MasterModel). m.name) design.library.masters component.master there.0 there.1 sound.names.masters.each),
         rw (there.1) (found (λ (m : MasterModel). m.name) design.library.masters component.master there.0 there.1 sound.names.masters.apart),

@@ -3,6 +3,7 @@ use Rattle.std.proofs.Common.{◌≡◌, ℕ, zero, suc, ◌+◌, ◌<◌, ◌�
 use Rattle.std.proofs.lemmas.Bool.{false≢true}
 use Rattle.std.proofs.lemmas.List.{append_assoc}
 use Rattle.std.proofs.lemmas.Option.{slice_get_within}
+use Rattle.leg_lemmas.proofs.Places.{all_at}
 use Rattle.leg_lex.specs.Words.{Words, is_at, is_name}
 use Rattle.leg_geom.specs.Plane.{PointModel}
 use Rattle.leg_lib_records.specs.declared.records.Layer.{Layer}
@@ -25,7 +26,7 @@ use Rattle.leg_output.specs.Names.{layer_name}
 use Rattle.leg_rules.specs.Names.{design_via, via_name}
 use Rattle.leg_output.specs.Text.Wires.{width_words, point_words, given_extension, segment_words, wire_words, via_wire_words, patch_words, lower_layer_of_via}
 use Rattle.leg_print_laws.specs.NetScope.{known_of}
-use Rattle.leg_print_laws.proofs.NumberedNames.{holds_of, found, name_is}
+use Rattle.leg_print_laws.proofs.NumberedNames.{found, name_is}
 use Rattle.leg_print_laws.proofs.Tracks.{layer_named}
 use Rattle.leg_print_laws.proofs.GoodVias.{good_joins, lowest_is, across_good}
 use Rattle.leg_print_laws.proofs.Wires.{IsPathLayer, written_as, segment_path, via_path, patch_path, given_is, extension_again}
@@ -72,10 +73,10 @@ module _ (design : DesignModel) (sound : IsSound design.library) (vias : AreVias
     by (inl first) = record {
       name = name_is (λ (v : ViaModel). v.name) design.library.vias number via first sound.names.vias.each;
       there = rw (found (λ (v : ViaModel). v.name) design.library.vias number via first sound.names.vias.apart) refl;
-      good = sym (holds_of (IsViaOf design.library) design.library.vias number via first sound.references.vias).good ∙ good;
+      good = sym (all_at (IsViaOf design.library) design.library.vias number via sound.references.vias first).good ∙ good;
     }
     by (inr (j, at, later)) =
-        let one : IsDesignVia design.library via = holds_of (IsDesignVia design.library) design.vias j via later vias.each in record {
+        let one : IsDesignVia design.library via = all_at (IsDesignVia design.library) design.vias j via vias.each later in record {
           name = one.name;
           there = rw (one.new, found (λ (v : ViaModel). v.name) design.vias j via later vias.apart) (ap Some (sym at));
           good = sym one.good ∙ good;

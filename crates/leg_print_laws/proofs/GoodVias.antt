@@ -1,7 +1,7 @@
 -- A good via joins two routing layers, of which the lowest of its layers is the lower one.
 use Rattle.std.proofs.Common.{◌≡◌, ℕ, ◌+◌, ◌<◌, ◌≤◌, min, fold, Bool, true, false, not, ◌&&◌, ◌||◌, ◌==◌, nat_lt, is_some, List, [], ◌∷◌, All, Contains, get_or, map, slice_get, Option, None, Some, option_map, refl, sym, ap, ◌∙◌, arith}
 use Rattle.std.specs.List.{list_any, list_all, find, slice_range}
-use Rattle.std.proofs.lemmas.Bool.{false≢true}
+use Rattle.std.proofs.lemmas.Bool.{false≢true, and_parts}
 use Rattle.std.proofs.lemmas.Bool.Decides.{nat_tests}
 use Rattle.std.proofs.lemmas.Option.{slice_get-map}
 use Rattle.std.proofs.lemmas.List.Elements.{All-head, All-tail, All-nil, All-cons}
@@ -11,7 +11,7 @@ use Rattle.leg_lib_records.specs.declared.records.LayerKind.TheVariants.{Routing
 use Rattle.leg_lib_records.specs.declared.records.Layer.{Layer}
 use Rattle.leg_lib_records.specs.declared.records.Shape.{Shape}
 use Rattle.leg_lib_records.specs.Joins as joins
-use Rattle.leg_lib_records.specs.Joins.{is_wiring_word, has_wires, is_use_of, is_cut, is_part, join, join_layers}
+use Rattle.leg_lib_records.specs.Joins.{is_wiring_word, has_wires, is_cut, is_part, join, join_layers}
 use Rattle.leg_lib_records.specs.GoodVia.{use_of, uses_of, holds_origin, parts_of, is_good_via}
 use Rattle.leg_lib_records.specs.Records.{LibraryModel, ViaModel}
 use Rattle.leg_design_records.specs.Layers.{is_routing, wire_width}
@@ -19,11 +19,10 @@ use Rattle.leg_design_records.proofs.SameTerminal.{Passes, passes_from, some_pas
 use Rattle.leg_grammar.specs.Def.Namespace.{KnownModel, via_numbered}
 use Rattle.leg_grammar.specs.Def.Path.{across}
 use Rattle.leg_output.specs.Text.Wires.{lowest_layer}
-use Rattle.leg_print_laws.proofs.Tests.{both}
 
 all_pass : {X : Type 0} (p : X → Bool) (xs : List X) → list_all p xs ≡ true → All (λ x. p x ≡ true) xs
 all_pass p [] all = All-nil (λ x. p x ≡ true)
-all_pass p (x ∷ xs) all = All-cons (λ y. p y ≡ true) x xs (both (p x) (list_all p xs) all).0 (all_pass p xs (both (p x) (list_all p xs) all).1)
+all_pass p (x ∷ xs) all = All-cons (λ y. p y ≡ true) x xs (and_parts (p x) (list_all p xs) all).0 (all_pass p xs (and_parts (p x) (list_all p xs) all).1)
 
 -- tests of what is made of each element
 any_map : {X Y : Type 0} (p : Y → Bool) (f : X → Y) (xs : List X) → list_any p (map f xs) ≡ list_any (λ x. p (f x)) xs
@@ -84,17 +83,19 @@ module _ (library : LibraryModel) (shapes : List Shape) where
   layers_join a b c joined there here =
       let uses = uses_of library.layers in
       let last =
-      both (joins.is_routing uses a.layer && is_cut uses b.layer && joins.is_routing uses c.layer && nat_lt a.layer b.layer && nat_lt b.layer c.layer && not
+      and_parts (joins.is_routing uses a.layer && is_cut uses b.layer && joins.is_routing uses c.layer && nat_lt a.layer b.layer && nat_lt b.layer c.layer &&
+      not
       (list_any has_wires (slice_range uses (a.layer + 1) c.layer)))
       (list_all (is_part a.layer b.layer c.layer) (parts_of shapes)) joined in
       let five =
-      both (joins.is_routing uses a.layer && is_cut uses b.layer && joins.is_routing uses c.layer && nat_lt a.layer b.layer && nat_lt b.layer c.layer)
+      and_parts (joins.is_routing uses a.layer && is_cut uses b.layer && joins.is_routing uses c.layer && nat_lt a.layer b.layer && nat_lt b.layer c.layer)
       (not (list_any has_wires (slice_range uses (a.layer + 1) c.layer))) last.0 in
       let four =
-      both (joins.is_routing uses a.layer && is_cut uses b.layer && joins.is_routing uses c.layer && nat_lt a.layer b.layer) (nat_lt b.layer c.layer) five.0 in
-      let three = both (joins.is_routing uses a.layer && is_cut uses b.layer && joins.is_routing uses c.layer) (nat_lt a.layer b.layer) four.0 in
-      let two = both (joins.is_routing uses a.layer && is_cut uses b.layer) (joins.is_routing uses c.layer) three.0 in
-      let one = both (joins.is_routing uses a.layer) (is_cut uses b.layer) two.0 in
+      and_parts (joins.is_routing uses a.layer && is_cut uses b.layer && joins.is_routing uses c.layer && nat_lt a.layer b.layer)
+      (nat_lt b.layer c.layer) five.0 in
+      let three = and_parts (joins.is_routing uses a.layer && is_cut uses b.layer && joins.is_routing uses c.layer) (nat_lt a.layer b.layer) four.0 in
+      let two = and_parts (joins.is_routing uses a.layer && is_cut uses b.layer) (joins.is_routing uses c.layer) three.0 in
+      let one = and_parts (joins.is_routing uses a.layer) (is_cut uses b.layer) two.0 in
       let below = less_from a.layer b.layer three.1 in
       let above = less_from b.layer c.layer four.1 in
       let parts =
@@ -128,7 +129,7 @@ module _ (library : LibraryModel) (shapes : List Shape) where
   unfolding is_good_via
   good_joins name good =
       let joined : join_layers (uses_of library.layers) (parts_of shapes) ≡ true =
-      (both (not (is_wiring_word name)) (join_layers (uses_of library.layers) (parts_of shapes)) good).1 in
+      (and_parts (not (is_wiring_word name)) (join_layers (uses_of library.layers) (parts_of shapes)) good).1 in
       let a = passing first joined in
       let b = passing (second a.it.layer) a.passes in
       let c = passing (third a.it.layer b.it.layer) b.passes in

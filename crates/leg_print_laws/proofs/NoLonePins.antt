@@ -1,7 +1,7 @@
 -- A well-formed design gets no lone pins when it is read again: each is in some net, or its net isn't there.
 use Rattle.std.proofs.Common.{◌≡◌, ℕ, suc, ◌+◌, Bool, true, false, ◌||◌, List, [], ◌∷◌, ◌++◌, Contains, ◌⊎◌, inl, inr, slice_get, Option, None, Some, refl, sym, ap, ◌∙◌, subst, arith}
 use Rattle.std.specs.Str.{bytes_eq}
-use Rattle.std.proofs.lemmas.Bool.{false≢true}
+use Rattle.std.proofs.lemmas.Bool.{false≢true, or_right}
 use Rattle.std.proofs.lemmas.List.{map-append}
 use Rattle.std.proofs.lemmas.List.Elements.{Contains-append_cases}
 use Rattle.leg_lex.specs.NameLookup.{place_of}
@@ -25,16 +25,12 @@ in_neither name (first ∷ a) b none = by (bytes_eq name first) refl (place_of n
 listed : (nets special : List NetModel) (p : ℕ) (net : NetModel) → Contains (nets ++ special) net → Contains net.terminals (Pin p)
     → (is_listed (Pin p) nets || is_listed (Pin p) special) ≡ true
 listed nets special p net there lists = by (Contains-append_cases nets special net there) where
-  or_true : (a b : Bool) → b ≡ true → (a || b) ≡ true
-  or_true true b is = refl
-  or_true false b is = is
-
   lists_it : (all : List NetModel) → Contains all net → is_listed (Pin p) all ≡ true
   lists_it all inside = some_passes (λ (n : NetModel). is_among (Pin p) n.terminals) all net inside (among_from (Pin p) net.terminals lists)
 
   by : Contains nets net ⊎ Contains special net → (is_listed (Pin p) nets || is_listed (Pin p) special) ≡ true
   by (inl first) = rw (lists_it nets first) refl
-  by (inr later) = or_true (is_listed (Pin p) nets) (is_listed (Pin p) special) (lists_it special later)
+  by (inr later) = or_right (is_listed (Pin p) nets) (is_listed (Pin p) special) (lists_it special later)
 
 named_nowhere : (lists : NetLists) (p : ℕ) (name : List ℕ) → place_of name (net_names (lists.nets ++ lists.special)) ≡ None
     → to_named lists p (Some name) ≡ lists

@@ -1,24 +1,16 @@
 -- A name that is printed for a number is found at this number again.
-use Rattle.std.proofs.Common.{◌≡◌, ℕ, zero, suc, ◌<◌, Bool, true, false, ◌&&◌, length-append, List, [], ◌∷◌, ◌++◌, All, length, get_or, map, slice_get, None, Some, IsTrue, refl, sym, ◌∙◌, subst, arith}
+use Rattle.std.proofs.Common.{◌≡◌, ℕ, ◌<◌, Bool, true, length-append, List, [], ◌∷◌, ◌++◌, All, length, get_or, map, slice_get, None, Some, IsTrue, refl, sym, ◌∙◌, subst, arith}
 use Rattle.std.specs.List.{list_all, flat_map}
 use Rattle.std.proofs.Math.Seq.{get_or-append_seam, take-append_seam}
 use Rattle.std.proofs.lemmas.List.{length-map, map-append}
 use Rattle.std.proofs.lemmas.List.Elements.{All-nil, All-cons, All-get_or}
 use Rattle.std.proofs.lemmas.List.Folds.{list_all-append}
 use Rattle.std.proofs.lemmas.Option.{slice_get_within, get_or_from_slice_get, slice_get-map}
+use Rattle.std.proofs.lemmas.Bool.{and_parts}
+use Rattle.leg_lemmas.proofs.Places.{all_at}
 use Rattle.leg_lex.specs.Words.{Words, is_name}
 use Rattle.leg_lex.specs.NameLookup.{place_of, AreApart}
 use Rattle.leg_lex.proofs.NameLookup.{not_yet_there}
-
--- a number within a list has an element
-pub element : {X : Type 0} (xs : List X) (i : ℕ) → i < length xs → (x : X) × (slice_get xs i ≡ Some x)
-element [] i less = absurd (omega arith)
-element (x ∷ xs) zero less = (x, refl)
-element (x ∷ xs) (suc i) less = element xs i (omega arith)
-
--- what holds of each element holds of the one with this number
-pub holds_of : {X : Type 0} (P : X → Type 0) (xs : List X) (i : ℕ) (x : X) → slice_get xs i ≡ Some x → All P xs → P x
-holds_of P xs i x is each = subst P (get_or_from_slice_get xs i x x is) (All-get_or P xs i x (slice_get_within xs i x is) each)
 
 pub within : {X : Type 0} (xs : List X) (y : X) (ys : List X) → length xs < length (xs ++ (y ∷ ys))
 within xs y ys = rw (length-append xs (y ∷ ys)) (omega arith)
@@ -37,7 +29,7 @@ module _ {X : Type 0} (name_of : X → List ℕ) where
   -- and is a name
   pub name_is : (xs : List X) (i : ℕ) (x : X) → slice_get xs i ≡ Some x → All (λ name. IsTrue (is_name name)) (map name_of xs) → is_name (name_of x) ≡ true
   name_is xs i x is each =
-      holds_of (λ name. IsTrue (is_name name)) (map name_of xs) i (name_of x) (slice_get-map name_of xs i ∙ rw is refl) each
+      all_at (λ name. IsTrue (is_name name)) (map name_of xs) i (name_of x) each (slice_get-map name_of xs i ∙ rw is refl)
 
   -- a name that stands behind others isn't among them
   pub not_before : (front : List X) (x : X) (back : List X) → AreApart (map name_of (front ++ (x ∷ back))) → place_of (name_of x) (map name_of front) ≡ None
@@ -58,15 +50,11 @@ pub fewer_before : {X : Type 0} (xs before : List X) (x : X) (after : List X) �
 fewer_before xs before x after is = rw is (within before x after)
 
 -- tests of all words, of two runs, and of each element's words
-both_are : (a b : Bool) → (a && b) ≡ true → (a ≡ true) × (b ≡ true)
-both_are true b all = (refl, all)
-both_are false b all = absurd (let e : ⊥ = cc in e)
-
 pub first_run_passes : (p : List ℕ → Bool) (v w : Words) → list_all p (v ++ w) ≡ true → list_all p v ≡ true
-first_run_passes p v w all = (both_are (list_all p v) (list_all p w) (sym (list_all-append p v w) ∙ all)).0
+first_run_passes p v w all = (and_parts (list_all p v) (list_all p w) (sym (list_all-append p v w) ∙ all)).0
 
 pub next_run_passes : (p : List ℕ → Bool) (v w : Words) → list_all p (v ++ w) ≡ true → list_all p w ≡ true
-next_run_passes p v w all = (both_are (list_all p v) (list_all p w) (sym (list_all-append p v w) ∙ all)).1
+next_run_passes p v w all = (and_parts (list_all p v) (list_all p w) (sym (list_all-append p v w) ∙ all)).1
 
 pub each_passes : {X : Type 0} (p : List ℕ → Bool) (words : X → Words) (xs : List X) → list_all p (flat_map words xs) ≡ true
     → All (λ x. list_all p (words x) ≡ true) xs

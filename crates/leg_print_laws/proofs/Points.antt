@@ -1,8 +1,8 @@
 -- Points, corners and orientations are read back.
-use Rattle.std.proofs.Common.{◌≡◌, true, false, ◌∷◌, ◌++◌, Some, codes, int_lt, ℤ, ◌<ℤ◌, refl, arith}
+use Rattle.std.proofs.Common.{◌≡◌, ◌∷◌, ◌++◌, Some, codes, ℤ, ◌<ℤ◌, refl}
 use Rattle.std.specs.Fmt.{signed_decimal}
 use Rattle.std.specs.Int.{int_min, int_max}
-use Rattle.std.proofs.lemmas.Int.{ints}
+use Rattle.leg_lemmas.proofs.Integers.{lt_test, not_lt_test}
 use Rattle.leg_lex.specs.Words.{Words, next_at, mark_at, whole_at}
 use Rattle.leg_lex.specs.Number.{IsNumber}
 use Rattle.leg_print_words.proofs.Numbers.{number_word}
@@ -36,17 +36,11 @@ lower_is r is = record { x = is.x1; y = is.y1 }
 upper_is : (r : RectModel) → IsArea r → IsPosition (record { x = r.x2; y = r.y2 })
 upper_is r is = record { x = is.x2; y = is.y2 }
 
-less_is : (a b : ℤ) → a <ℤ b → int_lt a b ≡ true
-less_is a b less = grind (arith, ints)
-
-not_less : (a b : ℤ) → a <ℤ b → int_lt b a ≡ false
-not_less a b less = grind (arith, ints)
-
 least : (a b : ℤ) → a <ℤ b → int_min a b ≡ a
-least a b less = rw (not_less a b less) refl
+least a b less = rw (not_lt_test a b less) refl
 
 most : (a b : ℤ) → a <ℤ b → int_max a b ≡ b
-most a b less = rw (not_less a b less) refl
+most a b less = rw (not_lt_test a b less) refl
 
 -- corners, the lower left first
 pub between_again : (r : RectModel) → IsProper r → rect_between (record { x = r.x1; y = r.y1 }) (record { x = r.x2; y = r.y2 }) ≡ Some r
@@ -57,8 +51,8 @@ between_again r is =
       least r.y1 r.y2 is.high,
       most r.x1 r.x2 is.wide,
       most r.y1 r.y2 is.high,
-      less_is r.x1 r.x2 is.wide,
-      less_is r.y1 r.y2 is.high,
+      lt_test r.x1 r.x2 is.wide,
+      lt_test r.y1 r.y2 is.high,
     ) refl
 
 pub corners_again : (r : RectModel) (rest : Words) → IsArea r → rect_at (corner_words r ++ rest) ≡ Some (r, rest)

@@ -3,6 +3,9 @@ use Rattle.std.proofs.Common.{◌≡◌, pos, ◌+ℤ◌, ◌*ℤ◌, true, [], 
 use Rattle.std.specs.List.{list_all}
 use Rattle.std.specs.Ordering.{int_eq}
 use Rattle.std.specs.Fmt.{signed_decimal}
+use Rattle.std.proofs.lemmas.Bool.{or_right}
+use Rattle.leg_lemmas.proofs.Integers.{le_test}
+use Rattle.leg_lemmas.proofs.Places.{all_at}
 use Rattle.leg_lex.specs.Words.{Words, next_at, keyword_at, name_at, whole_at, nothing_at, is_name}
 use Rattle.leg_lex.specs.Number.{IsNumber}
 use Rattle.leg_output.specs.Words.{stays_one, line, is_printable}
@@ -19,15 +22,15 @@ use Rattle.leg_output.specs.Text.Rows.{row_said, row_words, width_of_site}
 use Rattle.leg_print_laws.specs.PrintedNames.{StayOne, row_names}
 use Rattle.leg_print_laws.proofs.FreeWords.{IsFree, AreFree, free_literal, free_name, free_number, free_nil, free_cons}
 use Rattle.leg_print_laws.proofs.Again.{said_again, clauses_none}
-use Rattle.leg_print_laws.proofs.NumberedNames.{holds_of, found, name_is}
-use Rattle.leg_print_laws.proofs.Tests.{within_is, le_is, same_is, or_true}
+use Rattle.leg_print_laws.proofs.NumberedNames.{found, name_is}
+use Rattle.leg_print_laws.proofs.Tests.{within_is, same_is}
 use Rattle.leg_print_laws.specs.Forms.{DenotesForm}
 use Rattle.leg_print_laws.proofs.PrintableWords.{said_printable, line_says}
 use Rattle.leg_print_laws.proofs.Points.{number_again, orient_again, orient_free}
 
 module _ (design : DesignModel) (row : Row) (sound : IsSound design.library) (is : IsRow design.library row) (one : StayOne (row_names design row)) where
   wide : IsNumber is.site.size.width
-  wide = (holds_of (λ site. IsExtent site.size) design.library.sites row.site is.site is.there sound.sites).width
+  wide = (all_at (λ site. IsExtent site.size) design.library.sites row.site is.site sound.sites is.there).width
 
   site_is_name : is_name is.site.name ≡ true
   site_is_name = name_is (λ (s : Site). s.name) design.library.sites row.site is.site is.there sound.names.sites.each
@@ -46,9 +49,9 @@ module _ (design : DesignModel) (row : Row) (sound : IsSound design.library) (is
         orient_again row.orient _,
         is.upright,
         number_again row.count _ is.count,
-        le_is (pos 1) row.count is.some,
+        le_test (pos 1) row.count is.some,
         number_again is.site.size.width _ wide,
-        or_true (int_eq row.count (pos 1)) (int_eq is.site.size.width is.site.size.width) (same_is is.site.size.width),
+        or_right (int_eq row.count (pos 1)) (int_eq is.site.size.width is.site.size.width) (same_is is.site.size.width),
         within_is (row.at.x +ℤ row.count *ℤ is.site.size.width) is.end,
       ) refl
 

@@ -2,9 +2,10 @@
 use Rattle.std.proofs.Common.{◌≡◌, ◌≢◌, ℕ, Bool, true, false, not, ◌&&◌, List, [], ◌∷◌, ◌++◌, All, AllPairs, Contains, length, slice_get, Some, codes, refl, sym, ◌∙◌, subst, arith}
 use Rattle.std.specs.List.{flat_map}
 use Rattle.std.specs.Str.{bytes_eq}
-use Rattle.std.proofs.lemmas.Bool.{false≢true}
+use Rattle.std.proofs.lemmas.Bool.{false≢true, and_parts}
 use Rattle.std.proofs.Math.Seq.{get_or-append_seam}
 use Rattle.std.proofs.lemmas.List.{get_or_append_left}
+use Rattle.leg_lemmas.proofs.Places.{there_is, all_at}
 use Rattle.leg_lex.specs.Words.{Words, is_keyword, is_name, next_at, mark_at, name_at}
 use Rattle.leg_lex.specs.Until.{until, over}
 use Rattle.leg_lex.proofs.NameLookup.{name_itself}
@@ -26,11 +27,10 @@ use Rattle.leg_design_nets.proofs.NetEntries.{terminal_form_shortens}
 use Rattle.leg_output.specs.Names.{component_pin_name}
 use Rattle.leg_rules.specs.Names.{component_name, design_pin_name}
 use Rattle.leg_output.specs.Text.Nets.{terminal_words}
-use Rattle.leg_print_laws.proofs.Tests.{both}
 use Rattle.leg_print_laws.specs.PrintedNames.{StayOne, terminal_names}
 use Rattle.leg_print_laws.proofs.FreeWords.{AreFree, free_literal, free_name, free_nil, free_cons}
 use Rattle.leg_print_laws.proofs.Again.{all_again}
-use Rattle.leg_print_laws.proofs.NumberedNames.{element, holds_of, found, name_is, within, middle}
+use Rattle.leg_print_laws.proofs.NumberedNames.{found, name_is, within, middle}
 use Rattle.leg_print_laws.proofs.Wires.{no_mark}
 use Rattle.leg_print_laws.specs.NetScope.{known_of}
 
@@ -49,7 +49,7 @@ record ArePinNames (design : DesignModel) (c k : ℕ) : Type 0 where
 
 pin_names_are : (design : DesignModel) (c k : ℕ) → IsTerminal design (Comp c k) → ArePinNames design c k
 pin_names_are design c k is =
-    let pin = element is.2.0.pins k is.2.2 in record {
+    let pin = there_is is.2.0.pins k is.2.2 in record {
       component = is.0;
       master = is.2.0;
       pin = pin.0;
@@ -65,9 +65,9 @@ module _ (design : DesignModel) (sound : IsSound design.library) (components : A
   unfolding terminals_at one_terminal_at past_synthesized mark_at name_at next_at
   comp_again special c k rest are =
       let one : IsComponent design.library are.component =
-      holds_of (IsComponent design.library) design.components c are.component are.component_there components.each in
+      all_at (IsComponent design.library) design.components c are.component components.each are.component_there in
       let macro : IsMasterOf design.library are.master =
-      holds_of (IsMasterOf design.library) design.library.masters are.component.master are.master are.master_there sound.references.masters in
+      all_at (IsMasterOf design.library) design.library.masters are.component.master are.master sound.references.masters are.master_there in
       rw (
         are.component_there,
         are.master_there,
@@ -89,23 +89,23 @@ module _ (design : DesignModel) (sound : IsSound design.library) (components : A
       rw (
         is,
         and_false special (is_keyword (codes "*") (codes "PIN")) refl,
-        (holds_of (IsPin design.library) design.pins p pin is pins.each).name,
+        (all_at (IsPin design.library) design.pins p pin pins.each is).name,
         found (λ (x : PinModel). x.name) design.pins p pin is pins.apart,
       ) refl
 
   pub terminal_again : (special : Bool) (terminal : Terminal) (rest : Words) → IsTerminal design terminal
       → terminals_at (known_of design) special (terminal_words design terminal ++ rest) ≡ Some (terminal ∷ [], rest)
   terminal_again special (Comp c k) rest is = comp_again special c k rest (pin_names_are design c k is)
-  terminal_again special (Pin p) rest is = let pin = element design.pins p is in pin_again special p pin.0 rest pin.1
+  terminal_again special (Pin p) rest is = let pin = there_is design.pins p is in pin_again special p pin.0 rest pin.1
 
   -- the words of a terminal stay words
   pub terminal_free : (terminal : Terminal) → IsTerminal design terminal → StayOne (terminal_names design terminal) → AreFree (terminal_words design terminal)
   terminal_free (Comp c k) is one =
       let are = pin_names_are design c k is in
       let component : IsComponent design.library are.component =
-      holds_of (IsComponent design.library) design.components c are.component are.component_there components.each in
+      all_at (IsComponent design.library) design.components c are.component components.each are.component_there in
       let macro : IsMasterOf design.library are.master =
-      holds_of (IsMasterOf design.library) design.library.masters are.component.master are.master are.master_there sound.references.masters in
+      all_at (IsMasterOf design.library) design.library.masters are.component.master are.master sound.references.masters are.master_there in
       let first : is_name (component_name design c) ≡ true = rw are.component_there component.name in
       let next : is_name (component_pin_name design c k) ≡ true =
       rw (are.component_there, are.master_there, are.pin_there)
@@ -116,8 +116,8 @@ module _ (design : DesignModel) (sound : IsSound design.library) (components : A
       (first_passes stays_one (component_pin_name design c k) [] (others_pass stays_one (component_name design c) (component_pin_name design c k ∷ []) one)))
       (free_cons (free_literal (codes ")") refl refl refl) free_nil)))
   terminal_free (Pin p) is one =
-      let pin = element design.pins p is in
-      let named : is_name (design_pin_name design p) ≡ true = rw (pin.1) (holds_of (IsPin design.library) design.pins p pin.0 pin.1 pins.each).name in
+      let pin = there_is design.pins p is in
+      let named : is_name (design_pin_name design p) ≡ true = rw (pin.1) (all_at (IsPin design.library) design.pins p pin.0 pins.each pin.1).name in
       free_cons (free_literal (codes "(") refl refl refl) (free_cons (free_literal (codes "PIN") refl refl refl)
       (free_cons (free_name (design_pin_name design p) named (first_passes stays_one (design_pin_name design p) [] one))
       (free_cons (free_literal (codes ")") refl refl refl) free_nil)))
@@ -140,7 +140,7 @@ no_other_net name t nets same = by (is_of_other_net name t nets) refl where
   by false is = is
   by true is =
       let it = passes_from (λ (net : NetModel). not (bytes_eq net.name name) && is_among t net.terminals) nets is in
-      let facts = both (not (bytes_eq it.it.name name)) (is_among t it.it.terminals) it.passes in
+      let facts = and_parts (not (bytes_eq it.it.name name)) (is_among t it.it.terminals) it.passes in
       let named : it.it.name ≡ name = same it.it it.in_list (among_contains t it.it.terminals facts.1) in
       let equal : bytes_eq it.it.name name ≡ true = rw named (name_itself name) in
       absurd (false≢true (rw equal at (facts.0)))

@@ -3,6 +3,8 @@ use Rattle.std.proofs.Common.{◌≡◌, ℕ, pos, ◌+ℤ◌, ◌-ℤ◌, ◌*�
 use Rattle.std.specs.List.{list_all}
 use Rattle.std.proofs.lemmas.List.{append_assoc, append-nil}
 use Rattle.std.proofs.lemmas.List.Elements.{All-head, All-tail}
+use Rattle.leg_lemmas.proofs.Integers.{le_test}
+use Rattle.leg_lemmas.proofs.Places.{there_is}
 use Rattle.leg_lex.specs.Words.{Words, next_at, keyword_at, name_at, is_name}
 use Rattle.leg_lex.specs.NameLookup.{place_of}
 use Rattle.leg_lex.specs.Until.{until}
@@ -25,8 +27,8 @@ use Rattle.leg_print_laws.specs.PrintedNames.{StayOne, track_names}
 use Rattle.leg_print_laws.specs.Forms.{DenotesForm}
 use Rattle.leg_print_laws.proofs.FreeWords.{IsFree, AreFree, free_literal, free_name, free_number, free_nil, free_cons}
 use Rattle.leg_print_laws.proofs.Again.{said_again}
-use Rattle.leg_print_laws.proofs.NumberedNames.{element, found, name_is}
-use Rattle.leg_print_laws.proofs.Tests.{within_is, le_is}
+use Rattle.leg_print_laws.proofs.NumberedNames.{found, name_is}
+use Rattle.leg_print_laws.proofs.Tests.{within_is}
 use Rattle.leg_print_laws.proofs.Points.{number_again}
 use Rattle.leg_print_laws.proofs.PrintableWords.{said_printable, line_says}
 
@@ -38,7 +40,7 @@ pub record IsLayerName (library : LibraryModel) (layer : ℕ) (name : List ℕ) 
 pub layer_named : (design : DesignModel) (layer : ℕ) → IsSound design.library → layer < length design.library.layers
     → IsLayerName design.library layer (layer_name design layer)
 layer_named design layer sound less =
-    let found_one = element design.library.layers layer less in
+    let found_one = there_is design.library.layers layer less in
     rw (found_one.1) (record {
       is_one = name_is (λ (l : Layer). l.name) design.library.layers layer found_one.0 found_one.1 sound.names.layers.each;
       there = found (λ (l : Layer). l.name) design.library.layers layer found_one.0 found_one.1 sound.names.layers.apart;
@@ -108,9 +110,9 @@ module _ (design : DesignModel) (sound : IsSound design.library) where
           axis_again track.axis _,
           number_again track.start _ is.start,
           number_again track.count _ is.count,
-          le_is (pos 1) track.count is.some,
+          le_test (pos 1) track.count is.some,
           number_again track.step _ is.step,
-          le_is (pos 1) track.step is.apart,
+          le_test (pos 1) track.step is.apart,
           within_is (track.start +ℤ (track.count -ℤ pos 1) *ℤ track.step) is.end,
           layers_again track.layers is.layers,
         ) refl

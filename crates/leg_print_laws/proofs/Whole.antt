@@ -2,6 +2,7 @@
 use Rattle.std.proofs.Common.{◌≡◌, ℕ, ◌+◌, ◌<◌, ◌≤◌, Bool, true, false, List, [], ◌∷◌, ◌++◌, length, length-append, get_or, Option, None, Some, codes, decimal, refl, sym, ap, ◌∙◌, arith}
 use Rattle.std.specs.List.{flat_map}
 use Rattle.std.proofs.lemmas.List.{append_assoc, append-nil}
+use Rattle.std.proofs.lemmas.Option.{same_Some}
 use Rattle.leg_lex.specs.declared.limits.TheConstants.{NUMBER_LIMIT, TEXT_LIMIT}
 use Rattle.leg_lex.specs.Words.{Words, is_keyword, keyword_at, next_at, end_at, nothing_at}
 use Rattle.leg_lex.specs.Cut.{Cut}
@@ -342,9 +343,6 @@ text_says_units design sound well one fits =
     }
 
 -- It says no other design, where a text is cut in one way.
-some_same : {X : Type 0} (a b : X) → Some a ≡ Some b → a ≡ b
-some_same a b is = cc
-
 pub text_says_only : (design other : DesignModel) → IsSound design.library → IsWellFormed design → StayOne (printed_names design)
     → length (design_text design) ≤ TEXT_LIMIT
     → ((p q : List (List ℕ)) → Cut p (design_text design) → Cut q (design_text design) → p ≡ q)
@@ -353,4 +351,4 @@ text_says_only design other sound well one fits cut says =
     let each = all_stay_one design one in
     let few = few_vias design fits in
     let words = lines_have_only (design_text design) (whole_words design) cut (whole_lines design sound well each few) says.words says.tokens in
-    some_same other design (sym says.reads ∙ ap (design_in design.library) words ∙ whole_again design sound well each few)
+    same_Some other design (sym says.reads ∙ ap (design_in design.library) words ∙ whole_again design sound well each few)

@@ -6,12 +6,14 @@ use Rattle.std.specs.Ordering.{int_eq}
 use Rattle.std.proofs.lemmas.Bool.{false≢true}
 use Rattle.std.proofs.lemmas.Bool.Decides.{nat_tests}
 use Rattle.std.proofs.lemmas.Int.{ints}
+use Rattle.leg_lemmas.proofs.Integers.{eq_from_test}
 use Rattle.leg_lex.specs.Words.{Words, is_keyword, is_name, is_plain, is_mark_byte, is_at, next_at, keyword_at, mark_at, name_at}
 use Rattle.leg_lex.specs.Number.{IsNumber}
 use Rattle.leg_lex.specs.Until.{steps}
 use Rattle.leg_lex.proofs.NameLookup.{same_name}
 use Rattle.leg_print_words.proofs.Numbers.{number_word}
 use Rattle.leg_geom.specs.Plane.{PointModel, RectModel}
+use Rattle.leg_geom.proofs.Points.{same_point}
 use Rattle.leg_lib_records.specs.Joins.{is_wiring_word, wiring_words}
 use Rattle.leg_lib_records.specs.Records.{LibraryModel}
 use Rattle.leg_design_records.specs.declared.records.Wire.TheVariants.{Segment, ViaAt, Patch}
@@ -91,21 +93,12 @@ written_again false width rest is = refl
 written_again true width rest is = rw (number_again width _ is.0, not_below width is.1, is.2) refl
 
 -- a step to another point
-int_same : (a b : ℤ) → int_eq a b ≡ true → a ≡ b
-int_same a b same = grind (arith, ints)
-
-abbrev spot_at : ℤ → ℤ → PointModel
-spot_at x y = record { x = x; y = y }
-
-same_spot : (p q : PointModel) → p.x ≡ q.x → p.y ≡ q.y → p ≡ q
-same_spot p q x y = ap (λ a. spot_at a p.y) x ∙ ap (λ b. spot_at q.x b) y
-
 other_spot : (p q : PointModel) → p ≢ q → is_same_spot p q ≡ false
 other_spot p q apart = by (int_eq p.x q.x) (int_eq p.y q.y) refl refl where
   by : (x y : Bool) → int_eq p.x q.x ≡ x → int_eq p.y q.y ≡ y → is_same_spot p q ≡ false
   by false y at of = rw at refl
   by true false at of = rw (at, of) refl
-  by true true at of = absurd (apart (same_spot p q (int_same p.x q.x at) (int_same p.y q.y of)))
+  by true true at of = absurd (apart (same_point p q (eq_from_test p.x q.x at) (eq_from_test p.y q.y of)))
 
 -- the width of a segment, and the extension that holds where none is given
 width_again : (library : LibraryModel) (special : Bool) (layer : ℕ) (width : ℤ) → IsWidth library special layer width
@@ -254,5 +247,5 @@ module _ (library : LibraryModel) (special : Bool) (layer : ℕ) (extension : �
   extension_again width = by (int_eq extension (default_extension library (written special) layer)) refl where
     by : (same : Bool) → int_eq extension (default_extension library (written special) layer) ≡ same
         → unwrap_or (given_extension library special layer extension) (default_extension library (written_as special width) layer) ≡ extension
-    by true test = rw test (same_default library special layer width ∙ sym (int_same extension (default_extension library (written special) layer) test))
+    by true test = rw test (same_default library special layer width ∙ sym (eq_from_test extension (default_extension library (written special) layer) test))
     by false test = rw test refl

@@ -1,6 +1,6 @@
 use Rattle.std.proofs.Common.{◌≡◌, pos, to_z, w64, length, ap, arith}
 use Rattle.std.proofs.lemmas.Int.{ints}
-use Rattle.leg_print.proofs.SpecialNamed.{read_at}
+use Rattle.leg_lemmas.proofs.Places.{read_at}
 use Rattle.leg_print.proofs.NetCentres.{one_more_length, all_lengths}
 use Rattle.leg_print.proofs.OneWirelength.{one_wirelength}
 use Rattle.leg_print.proofs.wirelength.hpwl.Goals as goal

@@ -1,4 +1,4 @@
-use Rattle.leg_print.proofs.LeastBoxes.{same_sides}
+use Rattle.leg_geom.proofs.Points.{same_sides}
 use Rattle.leg_print.proofs.BoxesKept.{kept}
 use Rattle.leg_print.proofs.wirelength_box.Bounds.centre.Goals as goal
 

@@ -1,6 +1,6 @@
 use Rattle.std.proofs.Common.{◌≡◌}
+use Rattle.leg_geom.proofs.Points.{sides, same_sides}
 use Rattle.leg_print.specs.Steps.Wirelength.{joined}
-use Rattle.leg_print.proofs.LeastBoxes.{sides, same_sides}
 use Rattle.leg_print.proofs.BoxesKept.{register, min_kept, max_kept, box_joined}
 use Rattle.leg_print.proofs.wirelength_box.Bounds.with.Goals as goal
 
