@@ -27,7 +27,7 @@ const NOTED_FOR_EACH_STEP: usize = 64;
 
 /// How many more they note for each end: so many steps to ends behind walls can be found out, and kept for the next walk, before
 /// a search by levels looks at all starts.
-const NOTED_FOR_EACH_END: usize = 16;
+const NOTED_FOR_EACH_END: usize = 32;
 
 /// A shortest walk, where a few rounds of dives find one. Each round looks for a walk of as many steps as each has at least, as
 /// far as the rounds before it have found. Where none is found, `limit` is that number, and `left_out` whether there may be a walk:
