@@ -22,7 +22,8 @@ use Rattle.leg_app.specs.Comparison.{status_of, def_of, Compares, IsComparison}
 use Rattle.leg_app.proofs.Denotations.{design_has_library}
 
 -- a library is denoted with another DEF too, if that has its units
-for_other : (lefs : List (List ℕ)) (def other : List ℕ) (library : LibraryModel) → Denotes units_in other library.units → DenoteLibraryFor lefs def library → DenoteLibraryFor lefs other library
+for_other : (lefs : List (List ℕ)) (def other : List ℕ) (library : LibraryModel) → Denotes units_in other library.units → DenoteLibraryFor lefs def library
+    → DenoteLibraryFor lefs other library
 for_other lefs def other library units say = record {
   raw = say.raw;
   units = say.units;
@@ -32,25 +33,29 @@ for_other lefs def other library units say = record {
 }
 
 -- and it is the only one, if it is with the one DEF
-pub just_other : (lefs : List (List ℕ)) (def other : List ℕ) (library : LibraryModel) → Denotes units_in other library.units → DenotesJust lefs def library → DenotesJust lefs other library
+pub just_other : (lefs : List (List ℕ)) (def other : List ℕ) (library : LibraryModel) → Denotes units_in other library.units → DenotesJust lefs def library
+    → DenotesJust lefs other library
 just_other lefs def other library units just = record {
   found = for_other lefs def other library units just.found;
   only = λ said say.
       just.only said
       (for_other lefs other def said
-      (subst (Denotes units_in def) (sym (say.scaled.units ∙ (says_one units_in other say.units library.units say.unit units ∙ just.found.scaled.units))) just.found.unit)
+      (subst (Denotes units_in def) (sym (say.scaled.units
+      ∙ (says_one units_in other say.units library.units say.unit units ∙ just.found.scaled.units))) just.found.unit)
       say);
 }
 
 -- under the one library that is denoted the DEF denotes a design
-pub say_design : (lefs : List (List ℕ)) (def : List ℕ) (library : LibraryModel) (design : DesignModel) → DenotesJust lefs def library → Denotes (design_in library) def design → DenoteDesign lefs def library design
+pub say_design : (lefs : List (List ℕ)) (def : List ℕ) (library : LibraryModel) (design : DesignModel) → DenotesJust lefs def library
+    → Denotes (design_in library) def design → DenoteDesign lefs def library design
 say_design lefs def library design just says = record { under = just.found; said = says }
 
 pub library_of : (library : LibraryModel) (def : List ℕ) (design : DesignModel) → Denotes (design_in library) def design → design.library ≡ library
 library_of library def design says = (design_has_library library (texts says.words)).given design says.reads
 
 -- where one of the DEFs denotes nothing
-pub nothing_of : (side : Side) (lefs : List (List ℕ)) (before after : List ℕ) → DenoteNothing lefs (def_of side before after) → DenoteNothing lefs before ⊎ DenoteNothing lefs after
+pub nothing_of : (side : Side) (lefs : List (List ℕ)) (before after : List ℕ) → DenoteNothing lefs (def_of side before after)
+    → DenoteNothing lefs before ⊎ DenoteNothing lefs after
 nothing_of Before lefs before after nothing = inl nothing
 nothing_of After lefs before after nothing = inr nothing
 
@@ -64,7 +69,8 @@ no_reason_of (Differs count) = tt
 
 module _ (lefs : List (List ℕ)) (before after : List ℕ) (library : LibraryModel) (first second : DesignModel) (list : List Difference) (text : List ℕ)
     (say_first : DenoteDesign lefs before library first) (say_second : DenoteDesign lefs after library second) (all : AreAllDifferences first second list) where
-  compares : (verdict : Verdict) → IsVerdict first list verdict → text ≡ comparison_text first second list verdict → Compares lefs before after (status_of verdict) text
+  compares : (verdict : Verdict) → IsVerdict first list verdict → text ≡ comparison_text first second list verdict
+      → Compares lefs before after (status_of verdict) text
   compares verdict judged is = record {
     library = library;
     first = first;
@@ -80,7 +86,8 @@ module _ (lefs : List (List ℕ)) (before after : List ℕ) (library : LibraryMo
   }
 
   -- all differences and the verdict on them are an answer
-  pub compared : (verdict : Verdict) → IsVerdict first list verdict → text ≡ comparison_text first second list verdict → IsComparison lefs before after (status_of verdict) text
+  pub compared : (verdict : Verdict) → IsVerdict first list verdict → text ≡ comparison_text first second list verdict
+      → IsComparison lefs before after (status_of verdict) text
   compared Same judged is = compares Same judged is
   compared (Places moves) judged is = inl (compares (Places moves) judged is)
   compared (Wires growths) judged is = inl (compares (Wires growths) judged is)

@@ -97,13 +97,16 @@ module _ (first : DesignModel) (list : List Difference) where
   one_verdict v w p q = one_told v w (told v p) (told w q)
 
 module _ (lefs : List (List ℕ)) (before after : List ℕ) (one_before : SayOneDesign lefs before) (one_after : SayOneDesign lefs after) where
-  one_compared : (status other : Status) (text words : List ℕ) → Compares lefs before after status text → Compares lefs before after other words → (status ≡ other) × (text ≡ words)
+  one_compared : (status other : Status) (text words : List ℕ) → Compares lefs before after status text → Compares lefs before after other words
+      → (status ≡ other) × (text ≡ words)
   one_compared status other text words p q =
       let firsts : p.first ≡ q.first = (one_before p.library q.library p.first q.first p.say_first q.say_first).1 in
       let seconds : p.second ≡ q.second = (one_after p.library q.library p.second q.second p.say_second q.say_second).1 in
-      let all : AreAllDifferences q.first q.second p.list = subst (λ d. AreAllDifferences q.first d p.list) seconds (subst (λ d. AreAllDifferences d p.second p.list) firsts p.all) in
+      let all : AreAllDifferences q.first q.second p.list =
+      subst (λ d. AreAllDifferences q.first d p.list) seconds (subst (λ d. AreAllDifferences d p.second p.list) firsts p.all) in
       let lists : p.list ≡ q.list = one_list q.first q.second p.list q.list all q.all in
-      let judged : IsVerdict q.first q.list p.verdict = subst (λ l. IsVerdict q.first l p.verdict) lists (subst (λ d. IsVerdict d p.list p.verdict) firsts p.judged) in
+      let judged : IsVerdict q.first q.list p.verdict =
+      subst (λ l. IsVerdict q.first l p.verdict) lists (subst (λ d. IsVerdict d p.list p.verdict) firsts p.judged) in
       let verdicts : p.verdict ≡ q.verdict = one_verdict q.first q.list p.verdict q.verdict judged q.judged in (
         p.status_is ∙ (ap status_of verdicts ∙ sym q.status_is),
         p.is

@@ -1,8 +1,6 @@
 -- Reasons of answers: from designs to the texts that say them, and to streams.
-use Rattle.std.proofs.Common.{◌≡◌, ℕ, List, [], ◌∷◌, Option, None, Some, sym, subst}
+use Rattle.std.proofs.Common.{◌≡◌, ℕ, List, Option, None, Some, sym, subst}
 use Rattle.leg_app_input.specs.declared.command.Command.{Command}
-use Rattle.leg_app_input.specs.declared.command.Command.TheVariants.{Check}
-use Rattle.leg_app_input.specs.Stream.{IsSplit}
 use Rattle.leg_lib_records.specs.Records.{LibraryModel}
 use Rattle.leg_design_records.specs.Records.{DesignModel}
 use Rattle.leg_design_records.specs.declared.fault.Fault.{Fault}
@@ -13,12 +11,12 @@ use Rattle.leg_app.specs.declared.status.Status.{Status}
 use Rattle.leg_app.specs.declared.status.Status.TheVariants.{Success, Violations, Refused, Unsolved, Memory}
 use Rattle.leg_grammar.specs.Texts.{DenoteDesign}
 use Rattle.leg_app.specs.Answer.{IsListing}
-use Rattle.leg_app.specs.Reason.{Holds, HoldsOfTexts, IsSoOfStream, Explains}
+use Rattle.leg_app.specs.Reason.{IsSoOfDesign, IsSoOfTexts, Explains}
 
 module _ {A : Type 0} where
   -- what is so of a design is so of the texts that say it
   holds_of_texts : (command : Command) (lefs : List (List ℕ)) (def : List ℕ) (library : LibraryModel) (design : DesignModel) (reason : Reason A)
-      → DenoteDesign lefs def library design → Holds command design reason → HoldsOfTexts command lefs def reason
+      → DenoteDesign lefs def library design → IsSoOfDesign command design reason → IsSoOfTexts command lefs def reason
   holds_of_texts command lefs def library design (Read fault master) say holds = absurd holds
   holds_of_texts command lefs def library design NoLibrary say holds = absurd holds
   holds_of_texts command lefs def library design (Scale fault units) say holds = absurd holds
@@ -33,8 +31,8 @@ module _ {A : Type 0} where
   holds_of_texts command lefs def library design Unfinished say holds = record { library = library; design = design; say = say; holds = holds }
 
   pub explains_texts : (command : Command) (lefs : List (List ℕ)) (def : List ℕ) (library : LibraryModel) (design : DesignModel) (status : Status)
-      (reason : Option (Reason A)) (text : List ℕ) → DenoteDesign lefs def library design → Explains (Holds command design) status reason text
-      → Explains (HoldsOfTexts command lefs def) status reason text
+      (reason : Option (Reason A)) (text : List ℕ) → DenoteDesign lefs def library design → Explains (IsSoOfDesign command design) status reason text
+      → Explains (IsSoOfTexts command lefs def) status reason text
   explains_texts command lefs def library design status None text say explains = explains
   explains_texts command lefs def library design status (Some reason) text say explains =
       (explains.0, explains.1, holds_of_texts command lefs def library design reason say explains.2)

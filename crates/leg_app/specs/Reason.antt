@@ -60,19 +60,19 @@ pub record IsCutOff (design : DesignModel) (name : List ℕ) (piece : Option (Li
 
 -- What the reason says besides is so, where the design that is to be routed is such a one, at this stage, under this limit of grids. It
 -- is none of the reasons for which texts are not read.
-abbrev pub HoldsWith : {A : Type 0} → Stage → ℕ → (DesignModel → Type 0) → Reason A → Type 0
-HoldsWith stage limit IsRouted (Read fault master) = ⊥
-HoldsWith stage limit IsRouted NoLibrary = ⊥
-HoldsWith stage limit IsRouted (Scale fault units) = ⊥
-HoldsWith stage limit IsRouted TooMany = Unit {0}
-HoldsWith stage limit IsRouted FixedIllegal = Unit {0}
-HoldsWith stage limit IsRouted (NoSite component) = Unit {0}
-HoldsWith stage limit IsRouted (NoRoom component) = Unit {0}
-HoldsWith stage limit IsRouted (NotClean at) = at ≡ stage
-HoldsWith stage limit IsRouted (GridTooLarge most) = most ≡ limit
-HoldsWith stage limit IsRouted (Unroutable net piece) = (design : DesignModel) × IsRouted design × IsCutOff design net piece
-HoldsWith stage limit IsRouted (Unreachable net piece) = Unit {0}
-HoldsWith stage limit IsRouted Unfinished = Unit {0}
+abbrev pub IsSoAtStage : {A : Type 0} → Stage → ℕ → (DesignModel → Type 0) → Reason A → Type 0
+IsSoAtStage stage limit IsRouted (Read fault master) = ⊥
+IsSoAtStage stage limit IsRouted NoLibrary = ⊥
+IsSoAtStage stage limit IsRouted (Scale fault units) = ⊥
+IsSoAtStage stage limit IsRouted TooMany = Unit {0}
+IsSoAtStage stage limit IsRouted FixedIllegal = Unit {0}
+IsSoAtStage stage limit IsRouted (NoSite component) = Unit {0}
+IsSoAtStage stage limit IsRouted (NoRoom component) = Unit {0}
+IsSoAtStage stage limit IsRouted (NotClean at) = at ≡ stage
+IsSoAtStage stage limit IsRouted (GridTooLarge most) = most ≡ limit
+IsSoAtStage stage limit IsRouted (Unroutable net piece) = (design : DesignModel) × IsRouted design × IsCutOff design net piece
+IsSoAtStage stage limit IsRouted (Unreachable net piece) = Unit {0}
+IsSoAtStage stage limit IsRouted Unfinished = Unit {0}
 
 -- which design a command routes
 abbrev pub stage_of : Command → Stage
@@ -104,8 +104,8 @@ grid_limit Flow = GRID_LIMIT
 grid_limit Finish = GREATEST_GRID
 
 -- what the reason of a command over this design says besides is so
-abbrev pub Holds : {A : Type 0} → Command → DesignModel → Reason A → Type 0
-Holds command design reason = HoldsWith (stage_of command) (grid_limit command) (IsRoutedBy command design) reason
+abbrev pub IsSoOfDesign : {A : Type 0} → Command → DesignModel → Reason A → Type 0
+IsSoOfDesign command design reason = IsSoAtStage (stage_of command) (grid_limit command) (IsRoutedBy command design) reason
 
 -- the macro whose pin a fault needs, if it needs one
 abbrev pub needed_master : LibraryModel → Need → Option (List ℕ)
@@ -127,13 +127,13 @@ pub record IsOfDesign {A : Type 0} (command : Command) (lefs : List (List ℕ)) 
   pub library : LibraryModel
   pub design : DesignModel
   pub say : DenoteDesign lefs def library design
-  pub holds : Holds command design reason
+  pub holds : IsSoOfDesign command design reason
 
 -- What the reason says besides is so of the texts.
-abbrev pub HoldsOfTexts : {A : Type 0} → Command → List (List ℕ) → List ℕ → Reason A → Type 0
-HoldsOfTexts command lefs def (Read fault master) = AreNotRead lefs def fault.need master
-HoldsOfTexts command lefs def (Scale fault units) = AreNotScaled lefs def units
-HoldsOfTexts command lefs def reason = IsOfDesign command lefs def reason
+abbrev pub IsSoOfTexts : {A : Type 0} → Command → List (List ℕ) → List ℕ → Reason A → Type 0
+IsSoOfTexts command lefs def (Read fault master) = AreNotRead lefs def fault.need master
+IsSoOfTexts command lefs def (Scale fault units) = AreNotScaled lefs def units
+IsSoOfTexts command lefs def reason = IsOfDesign command lefs def reason
 
 -- an answer of this status has a reason, or has none
 abbrev pub HasReason : Status → Type 0
@@ -159,12 +159,12 @@ Explains IsSo status (Some reason) text = HasReason status × ReportsReason reas
 pub record IsExplained {A : Type 0} (command : Command) (lefs : List (List ℕ)) (def : List ℕ) (reason : Option (Reason A)) (status : Status)
     (text : List ℕ) : Type 0 where
   pub answer : IsAnswer command lefs def status text
-  pub explains : Explains (HoldsOfTexts command lefs def) status reason text
+  pub explains : Explains (IsSoOfTexts command lefs def) status reason text
 
 -- The same of a stream: of its LEF and its DEF, or where no LEF ends in it.
 abbrev pub IsSoOfStream : {A : Type 0} → List ℕ → Reason A → Type 0
 IsSoOfStream stream NoLibrary = ¬ HasEndLibrary stream
-IsSoOfStream stream reason = (lef : List ℕ) × (def : List ℕ) × IsSplit stream lef def × HoldsOfTexts Check (lef ∷ []) def reason
+IsSoOfStream stream reason = (lef : List ℕ) × (def : List ℕ) × IsSplit stream lef def × IsSoOfTexts Check (lef ∷ []) def reason
 
 pub record IsStreamExplained {A : Type 0} (stream : List ℕ) (reason : Option (Reason A)) (status : Status) (text : List ℕ) : Type 0 where
   pub answer : IsStreamAnswer stream status text

@@ -5,7 +5,7 @@ ghost use Rattle.leg_finish.specs.Refusal.{IsFinishRefusal};
 ghost use Rattle.leg_app_input.specs.declared.command.Command.TheVariants.{Finish};
 ghost use Rattle.leg_app.specs.declared.status.Status.TheVariants.{Unsolved};
 ghost use Rattle.leg_app.specs.FinishResult.{ReportsNotFinished};
-ghost use Rattle.leg_app.specs.Reason.{Explains, Holds};
+ghost use Rattle.leg_app.specs.Reason.{Explains, IsSoOfDesign};
 ghost use Rattle.leg_app.specs.Steps.Making.{IsMaking};
 
 use crate::answer::{Answer, copied, unsolved};
@@ -26,7 +26,7 @@ pub(crate) fn finish_answer<'e, A: Allocator + Copy, P: Progress>(
     progress: &mut P,
 ) -> Result<Answer<'e, A>, AllocError>
     ensures is { IfOk result (λ answer. IsMaking Finish design.entry answer.status answer.text.items) }
-    ensures explains { IfOk result (λ answer. Explains (Holds Finish design.entry) answer.status answer.reason answer.text.items) }
+    ensures explains { IfOk result (λ answer. Explains (IsSoOfDesign Finish design.entry) answer.status answer.reason answer.text.items) }
 {
     let library = design.library();
     match finish(alloc, library, design, progress) {
@@ -52,7 +52,7 @@ fn not_finished<'e, A: Allocator + Copy>(
     requires { IsFinishRefusal design.now fault.now }
     ensures status { IfOk result (λ answer. answer.status ≡ Unsolved) }
     ensures tells { IfOk result (λ answer. ReportsNotFinished design.now answer.text.items) }
-    ensures explains { IfOk result (λ answer. Explains (Holds Finish design.now) answer.status answer.reason answer.text.items) }
+    ensures explains { IfOk result (λ answer. Explains (IsSoOfDesign Finish design.now) answer.status answer.reason answer.text.items) }
 {
     match fault {
         FinishFault::NotClean(violations) => {

@@ -5,7 +5,7 @@ ghost use Rattle.leg_design_records.specs.Records.{DesignModel};
 ghost use Rattle.leg_rules.specs.Legalise.Moves.{AreMoves};
 ghost use Rattle.leg_app_input.specs.declared.command.Command.TheVariants.{Flow};
 ghost use Rattle.leg_app.specs.LegaliseResult.{Legalises};
-ghost use Rattle.leg_app.specs.Reason.{Explains, Holds};
+ghost use Rattle.leg_app.specs.Reason.{Explains, IsSoOfDesign};
 ghost use Rattle.leg_app.specs.Steps.Making.{IsMaking};
 
 use crate::answer::Answer;
@@ -26,7 +26,7 @@ pub(crate) fn flow_answer<'e, A: Allocator + Copy>(
     design: Design<'_, A>,
 ) -> Result<Answer<'e, A>, AllocError>
     ensures is { IfOk result (λ answer. IsMaking Flow design.entry answer.status answer.text.items) }
-    ensures explains { IfOk result (λ answer. Explains (Holds Flow design.entry) answer.status answer.reason answer.text.items) }
+    ensures explains { IfOk result (λ answer. Explains (IsSoOfDesign Flow design.entry) answer.status answer.reason answer.text.items) }
 {
     let library = design.library();
     match legalise(alloc, library, design) {
@@ -48,7 +48,7 @@ fn routing_answer<'e, A: Allocator + Copy>(
         AreMoves design legalised.entry moves.now.per_component moves.now.total moves.now.greatest →
         IsMaking Flow design answer.status answer.text.items) }
     ensures explains { IfOk result (λ answer. (design : DesignModel) → Legalises design legalised.entry →
-        Explains (Holds Flow design) answer.status answer.reason answer.text.items) }
+        Explains (IsSoOfDesign Flow design) answer.status answer.reason answer.text.items) }
 {
     let library = legalised.library();
     match route(alloc, library, legalised) {

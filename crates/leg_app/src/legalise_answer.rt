@@ -6,7 +6,7 @@ ghost use Rattle.leg_legal.specs.Refusals.{IsLegaliseRefusal};
 ghost use Rattle.leg_app_input.specs.declared.command.Command.{Command};
 ghost use Rattle.leg_app_input.specs.declared.command.Command.TheVariants.{Legalise};
 ghost use Rattle.leg_app.specs.declared.status.Status.TheVariants.{Unsolved};
-ghost use Rattle.leg_app.specs.Reason.{Explains, Holds};
+ghost use Rattle.leg_app.specs.Reason.{Explains, IsSoOfDesign};
 ghost use Rattle.leg_app.specs.LegaliseResult.{ReportsNotLegalised};
 ghost use Rattle.leg_app.specs.Steps.Making.{IsMaking};
 
@@ -26,7 +26,7 @@ pub(crate) fn legalise_answer<'e, A: Allocator + Copy>(
     design: Design<'_, A>,
 ) -> Result<Answer<'e, A>, AllocError>
     ensures is { IfOk result (λ answer. IsMaking Legalise design.entry answer.status answer.text.items) }
-    ensures explains { IfOk result (λ answer. Explains (Holds Legalise design.entry) answer.status answer.reason answer.text.items) }
+    ensures explains { IfOk result (λ answer. Explains (IsSoOfDesign Legalise design.entry) answer.status answer.reason answer.text.items) }
 {
     let library = design.library();
     match legalise(alloc, library, design) {
@@ -52,7 +52,7 @@ pub(crate) fn not_legalised<'e, A: Allocator + Copy>(
     ensures status { IfOk result (λ answer. answer.status ≡ Unsolved) }
     ensures tells { IfOk result (λ answer. IsLegaliseRefusal design.now fault.now → ReportsNotLegalised design.now answer.text.items) }
     ensures explains { IfOk result (λ answer. (command : Command) (before : DesignModel)
-        → Explains (Holds command before) answer.status answer.reason answer.text.items) }
+        → Explains (IsSoOfDesign command before) answer.status answer.reason answer.text.items) }
 {
     match fault {
         LegalFault::FixedIllegal(violations) => {

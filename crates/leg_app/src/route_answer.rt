@@ -11,7 +11,7 @@ ghost use Rattle.leg_route.specs.Refusal.{IsRouteRefusal};
 ghost use Rattle.leg_app_input.specs.declared.command.Command.{Command};
 ghost use Rattle.leg_app_input.specs.declared.command.Command.TheVariants.{Route};
 ghost use Rattle.leg_app.specs.declared.status.Status.TheVariants.{Unsolved};
-ghost use Rattle.leg_app.specs.Reason.{Explains, Holds, IsCutOff, IsRoutedBy, stage_of, grid_limit};
+ghost use Rattle.leg_app.specs.Reason.{Explains, IsSoOfDesign, IsCutOff, IsRoutedBy, stage_of, grid_limit};
 ghost use Rattle.leg_app.specs.RouteResult.{ReportsNotRouted};
 ghost use Rattle.leg_app.specs.Steps.Making.{IsMaking};
 
@@ -36,7 +36,7 @@ pub(crate) fn route_answer<'e, A: Allocator + Copy>(
     design: Design<'_, A>,
 ) -> Result<Answer<'e, A>, AllocError>
     ensures is { IfOk result (λ answer. IsMaking Route design.entry answer.status answer.text.items) }
-    ensures explains { IfOk result (λ answer. Explains (Holds Route design.entry) answer.status answer.reason answer.text.items) }
+    ensures explains { IfOk result (λ answer. Explains (IsSoOfDesign Route design.entry) answer.status answer.reason answer.text.items) }
 {
     let library = design.library();
     match route(alloc, library, design) {
@@ -65,7 +65,7 @@ pub(crate) fn not_routed<'e, A: Allocator + Copy>(
     ensures tells { IfOk result (λ answer. ReportsNotRouted design.now answer.text.items) }
     ensures explains { IfOk result (λ answer. (command : Command) (before : DesignModel)
         → stage ≡ stage_of command → GRID_LIMIT ≡ grid_limit command → IsRoutedBy command before design.now
-        → Explains (Holds command before) answer.status answer.reason answer.text.items) }
+        → Explains (IsSoOfDesign command before) answer.status answer.reason answer.text.items) }
 {
     match fault {
         RouteFault::NotClean(violations) => {

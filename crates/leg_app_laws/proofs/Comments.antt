@@ -98,7 +98,8 @@ cut_before (piece ∷ pieces) text more ends (x ∷ xs, here, is_piece, cut) = (
 )
 
 -- So with lines without words after it, it says what it said.
-pub says_before : {Said : Type 0} (reading : Words → Option Said) (text more : List ℕ) (said : Said) → EndsLine text → Lines more [] → length (text ++ more) ≤ TEXT_LIMIT
+pub says_before : {Said : Type 0} (reading : Words → Option Said) (text more : List ℕ) (said : Said) → EndsLine text → Lines more []
+    → length (text ++ more) ≤ TEXT_LIMIT
     → Denotes reading text said → Denotes reading (text ++ more) said
 says_before reading text more said ends lines fits says =
     let (pieces, cut, is) = says.tokens in

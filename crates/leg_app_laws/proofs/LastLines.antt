@@ -71,12 +71,14 @@ SayOneDesign = (lefs : List (List ℕ)) (def : List ℕ) (library other : Librar
 
 module _ (one : SayOneDesign) (lefs : List (List ℕ)) (before after : List ℕ) (library : LibraryModel) (first second : DesignModel)
     (say_first : DenoteDesign lefs before library first) (say_second : DenoteDesign lefs after library second) where
-  module _ (IsSuch : Verdict → Type 0) (suits : (list : List Difference) (v : Verdict) → AreAllDifferences first second list → IsVerdict first list v → IsSuch v) where
+  module _ (IsSuch : Verdict → Type 0) (suits : (list : List Difference) (v : Verdict) → AreAllDifferences first second list → IsVerdict first list v
+      → IsSuch v) where
     of_compared : (status : Status) (text : List ℕ) → Compares lefs before after status text → EndsAs IsSuch text
     of_compared status text c =
         let firsts : c.first ≡ first = (one lefs before c.library library c.first first c.say_first say_first).1 in
         let seconds : c.second ≡ second = (one lefs after c.library library c.second second c.say_second say_second).1 in
-        let all : AreAllDifferences first second c.list = subst (λ d. AreAllDifferences first d c.list) seconds (subst (λ d. AreAllDifferences d c.second c.list) firsts c.all) in
+        let all : AreAllDifferences first second c.list =
+        subst (λ d. AreAllDifferences first d c.list) seconds (subst (λ d. AreAllDifferences d c.second c.list) firsts c.all) in
         let judged : IsVerdict first c.list c.verdict = subst (λ d. IsVerdict d c.list c.verdict) firsts c.judged in
         record { verdict = c.verdict; such = suits c.list c.verdict all judged; lines = flat_map (difference_line c.first c.second) c.list; is = c.is }
 
@@ -95,10 +97,14 @@ module _ (one : SayOneDesign) (lefs : List (List ℕ)) (before after : List ℕ)
     answers_as Memory text is kept = absurd (kept refl)
 
   pub places_answered : ((d : Difference) → IsDifference first second d → IsMove first d) → AnswersAs IsOfPlaces lefs before after
-  places_answered only = answers_as IsOfPlaces (λ list v all judged. of_places first list v (All-weaker (IsDifference first second) (IsMove first) only list all.each) judged)
+  places_answered only =
+      answers_as IsOfPlaces (λ list v all judged. of_places first list v (All-weaker (IsDifference first second) (IsMove first) only list all.each) judged)
 
   pub wires_answered : ((d : Difference) → IsDifference first second d → IsGrowth d) → AnswersAs IsOfWires lefs before after
-  wires_answered only = answers_as IsOfWires (λ list v all judged. of_wires first list v (All-weaker (IsDifference first second) IsGrowth only list all.each) judged)
+  wires_answered only =
+      answers_as IsOfWires (λ list v all judged. of_wires first list v (All-weaker (IsDifference first second) IsGrowth only list all.each) judged)
 
   pub both_answered : ((d : Difference) → IsDifference first second d → IsMove first d ⊎ IsGrowth d) → AnswersAs IsOfPlacesAndWires lefs before after
-  both_answered only = answers_as IsOfPlacesAndWires (λ list v all judged. of_both first list v (All-weaker (IsDifference first second) (λ d. IsMove first d ⊎ IsGrowth d) only list all.each) judged)
+  both_answered only =
+      answers_as IsOfPlacesAndWires (λ list v all judged. of_both first list v
+      (All-weaker (IsDifference first second) (λ d. IsMove first d ⊎ IsGrowth d) only list all.each) judged)

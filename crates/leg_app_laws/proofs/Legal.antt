@@ -39,7 +39,8 @@ HasOneAnswer = (command : Command) (lefs : List (List ℕ)) (def : List ℕ) (st
     → command ≢ Route → command ≢ Flow → command ≢ Finish → status ≢ Refused → status ≢ Memory → other ≢ Memory → (status ≡ other) × (text ≡ words)
 
 module _ (one_answer : HasOneAnswer) (lefs : List (List ℕ)) (text : List ℕ) where
-  no_other : (command : Command) → command ≢ Route → command ≢ Flow → command ≢ Finish → IsAnswer command lefs text Success legal_text → AnswersLegal command lefs text
+  no_other : (command : Command) → command ≢ Route → command ≢ Flow → command ≢ Finish → IsAnswer command lefs text Success legal_text
+      → AnswersLegal command lefs text
   no_other command first second third legal = record {
     legal = legal;
     only = λ status answer is not_memory.
@@ -51,7 +52,17 @@ module _ (one_answer : HasOneAnswer) (lefs : List (List ℕ)) (text : List ℕ) 
   placed_answered : (design : DesignModel) → DenoteDesign lefs text design.library design → IsLegallyPlaced design → AnswersLegal PlaceCheck lefs text
   placed_answered design say placed =
       no_other PlaceCheck (λ e. cc) (λ e. cc) (λ e. cc)
-      (inl (record { library = design.library; design = design; flat = None; violations = []; say = say; shown = tt; list = none_listed _ placed; is = (refl, refl) }))
+      (inl (record {
+        library = design.library;
+        design = design;
+        flat = None;
+        violations = [];
+        say = say;
+        shown = tt;
+        list = none_listed _ placed;
+        is =
+            (refl, refl);
+      }))
 
   -- texts that denote a legal design within the limit of shapes
   legal_answered : (design : DesignModel) → DenoteDesign lefs text design.library design → IsLegal design → AnswersLegal Check lefs text
@@ -79,29 +90,37 @@ finished_library : (before after : DesignModel) → Finishes before after → af
 finished_library before after finishes = ap (λ d. d.library) finishes.same.rest
 
 -- What `route`, `legalise`, `flow` and `finish` print.
-module _ (says_design : SaysItsDesign) (says_units : SaysItsUnits) (lefs : List (List ℕ)) (def text : List ℕ) (library : LibraryModel) (design : DesignModel) (say : DenoteDesign lefs def library design) where
-  pub routed_said : (printed : PrintsRouted design text) → StayOne (printed_names printed.routed) → length text ≤ TEXT_LIMIT → DenoteDesign lefs text printed.routed.library printed.routed
+module _ (says_design : SaysItsDesign) (says_units : SaysItsUnits) (lefs : List (List ℕ)) (def text : List ℕ) (library : LibraryModel) (design : DesignModel)
+    (say : DenoteDesign lefs def library design) where
+  pub routed_said : (printed : PrintsRouted design text) → StayOne (printed_names printed.routed) → length text ≤ TEXT_LIMIT
+      → DenoteDesign lefs text printed.routed.library printed.routed
   routed_said printed one fits =
       let routes = printed.routes in
-      said_again says_design says_units lefs def text library design printed.routed say (routed_library design printed.routed routes) routes.sound routes.proper one printed.is fits
+      said_again says_design says_units lefs def text library design printed.routed say
+      (routed_library design printed.routed routes) routes.sound routes.proper one printed.is fits
 
-  pub legalised_said : (printed : PrintsLegalised design text) → StayOne (printed_names printed.legalised) → length text ≤ TEXT_LIMIT → DenoteDesign lefs text printed.legalised.library printed.legalised
+  pub legalised_said : (printed : PrintsLegalised design text) → StayOne (printed_names printed.legalised) → length text ≤ TEXT_LIMIT
+      → DenoteDesign lefs text printed.legalised.library printed.legalised
   legalised_said printed one fits =
       let legalises = printed.legalises in
-      said_with_moves says_design says_units lefs def text library design printed.legalised say (legalised_library design printed.legalised legalises) legalises.sound legalises.proper one
+      said_with_moves says_design says_units lefs def text library design printed.legalised say
+      (legalised_library design printed.legalised legalises) legalises.sound legalises.proper one
       printed.distances printed.total printed.greatest printed.is fits
 
-  pub flow_said : (printed : PrintsFlow design text) → StayOne (printed_names printed.routed) → length text ≤ TEXT_LIMIT → DenoteDesign lefs text printed.routed.library printed.routed
+  pub flow_said : (printed : PrintsFlow design text) → StayOne (printed_names printed.routed) → length text ≤ TEXT_LIMIT
+      → DenoteDesign lefs text printed.routed.library printed.routed
   flow_said printed one fits =
       let routes = printed.routes in
       let same = routed_library printed.legalised printed.routed routes ∙ legalised_library design printed.legalised printed.legalises in
       said_with_moves says_design says_units lefs def text library design printed.routed say same routes.sound routes.proper one
       printed.distances printed.total printed.greatest printed.is fits
 
-  pub finished_said : (printed : PrintsFinished design text) → StayOne (printed_names printed.finished) → length text ≤ TEXT_LIMIT → DenoteDesign lefs text printed.finished.library printed.finished
+  pub finished_said : (printed : PrintsFinished design text) → StayOne (printed_names printed.finished) → length text ≤ TEXT_LIMIT
+      → DenoteDesign lefs text printed.finished.library printed.finished
   finished_said printed one fits =
       let finishes = printed.finishes in
-      said_with_wires says_design says_units lefs def text library design printed.finished say (finished_library design printed.finished finishes) finishes.sound finishes.proper one
+      said_with_wires says_design says_units lefs def text library design printed.finished say
+      (finished_library design printed.finished finishes) finishes.sound finishes.proper one
       printed.length printed.vias printed.is fits
 
   module _ (one_answer : HasOneAnswer) where
@@ -110,7 +129,8 @@ module _ (says_design : SaysItsDesign) (says_units : SaysItsUnits) (lefs : List 
         let routes = printed.routes in
         legal_answered one_answer lefs text printed.routed (routed_said printed one fits) routes.legal
 
-    pub legalised_placed : (printed : PrintsLegalised design text) → StayOne (printed_names printed.legalised) → length text ≤ TEXT_LIMIT → AnswersLegal PlaceCheck lefs text
+    pub legalised_placed : (printed : PrintsLegalised design text) → StayOne (printed_names printed.legalised) → length text ≤ TEXT_LIMIT
+        → AnswersLegal PlaceCheck lefs text
     legalised_placed printed one fits = placed_answered one_answer lefs text printed.legalised (legalised_said printed one fits) printed.legalises.legal
 
     pub flow_legal : (printed : PrintsFlow design text) → StayOne (printed_names printed.routed) → length text ≤ TEXT_LIMIT → AnswersLegal Check lefs text
@@ -118,5 +138,6 @@ module _ (says_design : SaysItsDesign) (says_units : SaysItsUnits) (lefs : List 
         let routes = printed.routes in
         legal_answered one_answer lefs text printed.routed (flow_said printed one fits) routes.legal
 
-    pub finished_legal : (printed : PrintsFinished design text) → StayOne (printed_names printed.finished) → length text ≤ TEXT_LIMIT → AnswersLegal Check lefs text
+    pub finished_legal : (printed : PrintsFinished design text) → StayOne (printed_names printed.finished) → length text ≤ TEXT_LIMIT
+        → AnswersLegal Check lefs text
     finished_legal printed one fits = legal_answered one_answer lefs text printed.finished (finished_said printed one fits) printed.finishes.legal

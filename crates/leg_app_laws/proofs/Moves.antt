@@ -48,12 +48,14 @@ move_comment component distance name =
     (feed_append front (codes " ") (feed_append (codes " move ") component.name refl (name_feed component.name name)) refl)
     (number_feed distance)))
 
-move_comments : (library : LibraryModel) (components : List Component) (distances : List ℤ) → All (IsComponent library) components → Lines (move_lines components distances) []
+move_comments : (library : LibraryModel) (components : List Component) (distances : List ℤ) → All (IsComponent library) components
+    → Lines (move_lines components distances) []
 move_comments library [] distances each = lines_nil
 move_comments library (component ∷ components) [] each = lines_nil
 move_comments library (component ∷ components) (distance ∷ distances) each =
     let here = All-head (IsComponent library) component components each in
-    lines_append (move_comment component distance here.name) (move_comments library components distances (All-tail (IsComponent library) component components each))
+    lines_append (move_comment component distance here.name)
+    (move_comments library components distances (All-tail (IsComponent library) component components each))
 
 length_comment : (bytes : List ℕ) (z : ℤ) → HasNoFeed bytes → Lines (length_line (35 ∷ bytes) z) []
 length_comment bytes z none = comment_line (bytes ++ signed_decimal z) (feed_append bytes (signed_decimal z) none (number_feed z))
@@ -62,17 +64,22 @@ total_comments : (total greatest : ℤ) → Lines (total_lines total greatest) [
 total_comments total greatest = lines_append (length_comment (codes " total ") total refl) (length_comment (codes " greatest ") greatest refl)
 
 -- the text of the design is no longer than that with lines after it
-pub design_fits : (design : DesignModel) (distances : List ℤ) (total greatest : ℤ) → length (legalised_text design distances total greatest) ≤ TEXT_LIMIT → length (design_text design) ≤ TEXT_LIMIT
+pub design_fits : (design : DesignModel) (distances : List ℤ) (total greatest : ℤ) → length (legalised_text design distances total greatest) ≤ TEXT_LIMIT
+    → length (design_text design) ≤ TEXT_LIMIT
 design_fits design distances total greatest fits =
     let moves = move_lines design.components distances in
     omega (arith, length-append (design_text design ++ moves) (total_lines total greatest), length-append (design_text design) moves)
 
-pub says_with_moves : {Said : Type 0} (reading : Words → Option Said) (said : Said) (design : DesignModel) (distances : List ℤ) (total greatest : ℤ) → IsWellFormed design
-    → length (legalised_text design distances total greatest) ≤ TEXT_LIMIT → Denotes reading (design_text design) said → Denotes reading (legalised_text design distances total greatest) said
+pub says_with_moves : {Said : Type 0} (reading : Words → Option Said) (said : Said) (design : DesignModel) (distances : List ℤ) (total greatest : ℤ)
+    → IsWellFormed design
+    → length (legalised_text design distances total greatest) ≤ TEXT_LIMIT → Denotes reading (design_text design) said
+    → Denotes reading (legalised_text design distances total greatest) said
 says_with_moves reading said design distances total greatest well fits says =
     let moves = move_lines design.components distances in
     let totals = total_lines total greatest in
-    let whole : design_text design ++ (moves ++ totals) ≡ legalised_text design distances total greatest = sym (append_assoc (design_text design) moves totals) in
-    let comments : Lines (moves ++ totals) [] = lines_append (move_comments design.library design.components distances well.components.each) (total_comments total greatest) in
+    let whole : design_text design ++ (moves ++ totals) ≡ legalised_text design distances total greatest =
+    sym (append_assoc (design_text design) moves totals) in
+    let comments : Lines (moves ++ totals) [] =
+    lines_append (move_comments design.library design.components distances well.components.each) (total_comments total greatest) in
     subst (λ t. Denotes reading t said) whole
     (says_before reading (design_text design) (moves ++ totals) said (text_ends design) comments (subst (λ t. length t ≤ TEXT_LIMIT) (sym whole) fits) says)

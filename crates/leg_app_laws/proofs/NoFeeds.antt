@@ -7,6 +7,7 @@ use Rattle.std.proofs.lemmas.Bool.Decides.{nat_tests}
 use Rattle.std.proofs.lemmas.List.Folds.{list_any-append}
 use Rattle.leg_lex.specs.Cut.{kind_of, is_white, is_line_feed}
 use Rattle.leg_lex.specs.Words.{is_name, is_plain_kind}
+use Rattle.leg_lex.proofs.PieceKinds.{white_feeds}
 
 -- no byte of the text is a line feed
 abbrev pub HasNoFeed : List ℕ → Type 0
@@ -16,20 +17,18 @@ pub feed_append : (front back : List ℕ) → HasNoFeed front → HasNoFeed back
 feed_append front back first next = rw (list_any-append is_line_feed front back, first, next) refl
 
 -- A name has none, since it has no white space.
-white_feed : (b : ℕ) → is_white b ≡ false → is_line_feed b ≡ false
-white_feed b black = grind (arith, nat_tests)
-
 plain_feed : (b : ℕ) → is_plain_kind (kind_of b) ≡ true → is_line_feed b ≡ false
 plain_feed b plain = by (is_white b) refl where
   by : (white : Bool) → is_white b ≡ white → is_line_feed b ≡ false
-  by false is = white_feed b is
+  by false is = white_feeds b is
   by true is = absurd (false≢true (rw is at plain))
 
 black_feeds : (bytes : List ℕ) → list_any is_white bytes ≡ false → HasNoFeed bytes
 black_feeds [] none = refl
 black_feeds (b ∷ bytes) none = by (black_feeds bytes) (is_white b) (list_any is_white bytes) refl refl where
-  by : (list_any is_white bytes ≡ false → HasNoFeed bytes) → (first others : Bool) → is_white b ≡ first → list_any is_white bytes ≡ others → HasNoFeed (b ∷ bytes)
-  by later false false here there = rw (white_feed b here, later there) refl
+  by : (list_any is_white bytes ≡ false → HasNoFeed bytes) → (first others : Bool) → is_white b ≡ first → list_any is_white bytes ≡ others
+      → HasNoFeed (b ∷ bytes)
+  by later false false here there = rw (white_feeds b here, later there) refl
   by later false true here there = absurd (false≢true (sym (rw (here, there) at none)))
   by later true others here there = absurd (false≢true (sym (rw here at none)))
 

@@ -14,6 +14,7 @@ module _ (lefs : List (List ℕ)) (def : List ℕ) (library : LibraryModel) (des
   said_well_formed = reads_well_formed library (texts say.said.words) design say.said.reads
 
   -- a text that denotes a design of the same library denotes it under that library
-  pub said_under : (text : List ℕ) (after : DesignModel) → after.library ≡ design.library → DenoteDesign lefs text after.library after → DenoteDesign lefs text library after
+  pub said_under : (text : List ℕ) (after : DesignModel) → after.library ≡ design.library → DenoteDesign lefs text after.library after
+      → DenoteDesign lefs text library after
   said_under text after same again =
       subst (λ l. DenoteDesign lefs text l after) (same ∙ (design_has_library library (texts say.said.words)).given design say.said.reads) again

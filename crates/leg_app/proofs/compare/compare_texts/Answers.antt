@@ -8,7 +8,8 @@ use Rattle.leg_app.proofs.compare.compare_texts.Goals as goal
 pub returns-in-Ok : goal.returns-in-Ok
 returns-in-Ok g c =
     let said = c.in-Ok.ensures in
-    ok_weaker _ _ c.library_comparison.result (λ answer all. all (record { found = said.found; only = said.only })) (rw said.text at c.library_comparison.ensures)
+    ok_weaker _ _ c.library_comparison.result (λ answer all. all (record { found = said.found; only = said.only }))
+    (rw said.text at c.library_comparison.ensures)
 
 pub returns-in-Err : goal.returns-in-Err
 returns-in-Err g c =
@@ -17,5 +18,6 @@ returns-in-Err g c =
     let fault = c.in-Err.fault in
     let none = c.in-Err.ensures.none in
     ok_weaker _ _ c.refusal.result
-    (λ answer all. all lefs before c.args.after.now (refuses_weaker {nothing = DenoteNoLibrary lefs before} {other = DenoteNothing lefs before} {much = ⊥} {more = ⊥} fault (nothing_under lefs before) (λ much. much) none) c.in-Err.ensures.units (master_of_none lefs before fault none))
+    (λ answer all. all lefs before c.args.after.now (refuses_weaker {nothing = DenoteNoLibrary lefs before} {other = DenoteNothing lefs before} {much = ⊥}
+    {more = ⊥} fault (nothing_under lefs before) (λ much. much) none) c.in-Err.ensures.units (master_of_none lefs before fault none))
     c.refusal.ensures

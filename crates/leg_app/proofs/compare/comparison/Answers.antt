@@ -8,5 +8,7 @@ returns g c = λ lefs before after say_first say_second.
     let verdict = c.verdict_of-verdict.result in
     let judged = rw c.deref.ensures.value at c.verdict_of-verdict.ensures in
     let told = rw c.deref-2.ensures.value at c.in_ok-text.ensures in
-    let answer = compared lefs before after first.library first second c.in_ok-list.list.items c.in_ok-text.text.items say_first say_second c.in_ok-list.ensures verdict judged told in
+    let answer =
+    compared lefs before after first.library first second c.in_ok-list.list.items c.in_ok-text.text.items say_first say_second c.in_ok-list.ensures verdict
+    judged told in
     record { answer = rw c.status_of.ensures answer; explains = rw c.status_of.ensures (no_reason_of verdict) }

@@ -14,7 +14,8 @@ returns-then-units g c =
     let after = c.args.after.now in
     let same = c.if-units.true ∙ c.units.ensures in
     ok_weaker _ _ c.second_comparison.result
-    (λ answer all before just says. all lefs before (say_design lefs before library c.args.first.now just says) (just_other lefs before after library (subst (Denotes units_in after) same c.in-Ok.ensures.units) just))
+    (λ answer all before just says. all lefs before (say_design lefs before library c.args.first.now just says)
+    (just_other lefs before after library (subst (Denotes units_in after) same c.in-Ok.ensures.units) just))
     (rw c.in-Ok.ensures.text at c.second_comparison.ensures)
 
 pub returns-in-Ok : goal.returns-in-Ok

@@ -8,9 +8,20 @@ returns-in-Ok g c =
     let other = c.args.other.now in
     ok_weaker _ _ c.units_differ.result
     (λ answer all lefs before library first say apart just. all lefs before c.args.after
-    (record { library = library; other = other; first = first; second = _; say_first = say; say_second = say_design lefs c.args.after other _ just c.in-Ok.ensures.found; apart = apart; is = refl }))
+    (record {
+      library = library;
+      other = other;
+      first = first;
+      second = _;
+      say_first = say;
+      say_second = say_design lefs c.args.after other _ just
+          c.in-Ok.ensures.found;
+      apart = apart;
+      is = refl;
+    }))
     c.units_differ.ensures
 
 pub returns-in-Err : goal.returns-in-Err
 returns-in-Err g c =
-    ok_weaker _ _ c.unread.result (λ answer all lefs before library first say apart just. all lefs before c.args.after just c.in-Err.ensures.none) c.unread.ensures
+    ok_weaker _ _ c.unread.result (λ answer all lefs before library first say apart just.
+    all lefs before c.args.after just c.in-Err.ensures.none) c.unread.ensures

@@ -24,5 +24,7 @@ returns-in-Err g c =
     let fault = c.in-Err.fault in
     let none = c.in-Err.ensures.none in
     ok_weaker _ _ c.refusal.result
-    (λ answer all before first say apart. all lefs before after (refuses_weaker {nothing = DenoteNoLibrary lefs after} {other = DenoteNothing lefs after} {much = ⊥} {more = ⊥} fault (nothing_under lefs after) (λ much. much) none) c.in-Err.ensures.units (master_of_none lefs after fault none))
+    (λ answer all before first say apart. all lefs before after
+    (refuses_weaker {nothing = DenoteNoLibrary lefs after} {other = DenoteNothing lefs after} {much = ⊥} {more = ⊥} fault (nothing_under lefs after)
+    (λ much. much) none) c.in-Err.ensures.units (master_of_none lefs after fault none))
     c.refusal.ensures

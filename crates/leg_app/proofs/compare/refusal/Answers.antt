@@ -17,6 +17,10 @@ returns-in_ok-text-in-Scale g c = λ lefs before after refused units of_master.
     let nothing = (rw c.in-Scale.is at refused) not_memory in
     let told = c.in_ok-text-in-Scale.ensures in
     rw c.refused.ensures (record {
-      answer = record { nothing = nothing_of c.args.side lefs before after nothing; reason = inr (record { name = fault.name; kind = fault.kind; not_memory = not_memory; is = told }) };
+      answer = record {
+        nothing = nothing_of c.args.side lefs before after nothing;
+        reason = inr
+            (record { name = fault.name; kind = fault.kind; not_memory = not_memory; is = told });
+      };
       explains = (tt, (not_memory, told), record { nothing = nothing; units_are = rw c.in-Scale.is at units });
     })

@@ -3,4 +3,5 @@ use Rattle.leg_app.specs.Comparison.{HasOtherUnits}
 use Rattle.leg_app.proofs.compare.units_differ.Goals as goal
 
 pub returns : goal.returns
-returns g c = λ lefs before after other. record { answer = inr (subst (λ t. HasOtherUnits lefs before after t) (sym c.in_ok-text.ensures.items) other); explains = tt }
+returns g c =
+    λ lefs before after other. record { answer = inr (subst (λ t. HasOtherUnits lefs before after t) (sym c.in_ok-text.ensures.items) other); explains = tt }

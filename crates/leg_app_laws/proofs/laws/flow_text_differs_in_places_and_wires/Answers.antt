@@ -9,4 +9,5 @@ returns c = λ lefs def text library design say printed one fits.
     let same = ap (λ d. d.library) printed.routes.same.rest ∙ ap (λ d. d.library) printed.legalises.same.rest in
     let again = c.printed_texts_say_their_designs.ensures.flow lefs def text library design say printed one fits in
     both_answered c.texts_say_one_design.ensures lefs def text library design after say (said_under lefs def library design say text after same again)
-    (c.legalised_and_routed_design_differs_in_places_and_wires.ensures design printed.legalised after (said_well_formed lefs def library design say) printed.legalises.same printed.routes.same)
+    (c.legalised_and_routed_design_differs_in_places_and_wires.ensures design printed.legalised after
+    (said_well_formed lefs def library design say) printed.legalises.same printed.routes.same)
