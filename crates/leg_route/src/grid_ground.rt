@@ -55,7 +55,14 @@ impl<'g, 'a, A: Allocator + Copy> GridGround<'g, 'a, A> {
     ) -> Result<GridGround<'g, 'a, A>, RouteFault<A>>
         requires clean { IsCleanIn design.now flat }
         ensures ready { IfOk result (λ ground. IsReadyGround design.now ground.grid ground.flat ground.slots.items ground.numbers.items ground.marks.items ground.touched.items
-            (record { net = ground.part.net; joined = ground.part.joined.items; boxes = ground.part.slots.boxes.items; slots = ground.part.slots.slots.items; hulls = ground.part.hulls.items; ends = ground.part.ends.items }) ground.joins) }
+            (record {
+              net = ground.part.net;
+              joined = ground.part.joined.items;
+              boxes = ground.part.slots.boxes.items;
+              slots = ground.part.slots.slots.items;
+              hulls = ground.part.hulls.items;
+              ends = ground.part.ends.items;
+            }) ground.joins) }
         ensures same_design { IfOk result (λ ground. ground.design.now ≡ design.now) }
         ensures comes { IfOk result (λ ground. ComesToRun design.now ground.flat) }
         ensures within { IfOk result (λ ground. IsWithinLimits ground.flat) }
@@ -88,7 +95,14 @@ impl<'g, 'a, A: Allocator + Copy> Ground<A> for GridGround<'g, 'a, A> {
     ghost flat = { λ g. g.flat };
 
     ghost IsReady = { λ g. IsReadyGround g.design.now g.grid g.flat g.slots.items g.numbers.items g.marks.items g.touched.items
-        (record { net = g.part.net; joined = g.part.joined.items; boxes = g.part.slots.boxes.items; slots = g.part.slots.slots.items; hulls = g.part.hulls.items; ends = g.part.ends.items }) g.joins };
+        (record {
+          net = g.part.net;
+          joined = g.part.joined.items;
+          boxes = g.part.slots.boxes.items;
+          slots = g.part.slots.slots.items;
+          hulls = g.part.hulls.items;
+          ends = g.part.ends.items;
+        }) g.joins };
 
     fn next(&mut self, alloc: A, net: u32) -> Result<NextStep<A>, AllocError> {
         let own = self.numbers[net as usize].as_slice();

@@ -55,8 +55,22 @@ impl<A: Allocator + Copy> JoinedPart<A> {
         ensures net { result.net ≡ net }
         ensures same { self.net ≡ net → result ≡ self }
         ensures is { (grid : GridModel) (flat : FlatModel)
-            → IsJoinedPart grid flat (record { net = self.net; joined = self.joined.items; boxes = self.slots.boxes.items; slots = self.slots.slots.items; hulls = self.hulls.items; ends = self.ends.items })
-            → IsJoinedPart grid flat (record { net = result.net; joined = result.joined.items; boxes = result.slots.boxes.items; slots = result.slots.slots.items; hulls = result.hulls.items; ends = result.ends.items }) }
+            → IsJoinedPart grid flat (record {
+              net = self.net;
+              joined = self.joined.items;
+              boxes = self.slots.boxes.items;
+              slots = self.slots.slots.items;
+              hulls = self.hulls.items;
+              ends = self.ends.items;
+            })
+            → IsJoinedPart grid flat (record {
+              net = result.net;
+              joined = result.joined.items;
+              boxes = result.slots.boxes.items;
+              slots = result.slots.slots.items;
+              hulls = result.hulls.items;
+              ends = result.ends.items;
+            }) }
     {
         if self.net == net {
             return self;
@@ -83,11 +97,19 @@ pub(crate) fn part_now<A: Allocator + Copy>(
     requires of_net { joins.now.net ≡ net }
     requires net { part.net ≡ net }
     requires part { IsJoinedPart grid.now flat.now
-        (record { net = part.net; joined = part.joined.items; boxes = part.slots.boxes.items; slots = part.slots.slots.items; hulls = part.hulls.items; ends = part.ends.items }) }
+        (record {
+          net = part.net;
+          joined = part.joined.items;
+          boxes = part.slots.boxes.items;
+          slots = part.slots.slots.items;
+          hulls = part.hulls.items;
+          ends = part.ends.items;
+        }) }
     requires come { HaveCome flat.now net part.joined.items come.now }
     ensures net { IfOk result (λ now. now.net ≡ net) }
     ensures joined { IfOk result (λ now. AreMarks (AreJoined flat.now net 0) (piece_count flat.now net) now.joined.items) }
-    ensures is { IfOk result (λ now. IsPartOf grid.now flat.now net now.joined.items numbers.now now.slots.boxes.items now.slots.slots.items now.hulls.items now.ends.items) }
+    ensures is { IfOk result (λ now. IsPartOf grid.now flat.now net now.joined.items numbers.now
+        now.slots.boxes.items now.slots.slots.items now.hulls.items now.ends.items) }
 {
     let had = part.joined.len();
     mark_joined(&mut part.joined, flat.pieces_of_net(net), come)?;
@@ -126,7 +148,8 @@ fn new_part<A: Allocator + Copy>(
     requires numbers { All (λ k. k < length flat.now.shapes) numbers.now }
     ensures net { IfOk result (λ now. now.net ≡ net) }
     ensures joined { IfOk result (λ now. now.joined.items ≡ joined.items) }
-    ensures is { IfOk result (λ now. IsPartOf grid.now flat.now net now.joined.items numbers.now now.slots.boxes.items now.slots.slots.items now.hulls.items now.ends.items) }
+    ensures is { IfOk result (λ now. IsPartOf grid.now flat.now net now.joined.items numbers.now
+        now.slots.boxes.items now.slots.slots.items now.hulls.items now.ends.items) }
 {
     grid_is_sound(grid);
     let shapes = flat.shapes();
@@ -153,10 +176,18 @@ fn grown_part<A: Allocator + Copy>(
     part: JoinedPart<A>,
 ) -> Result<JoinedPart<A>, AllocError>
     requires growing { IsGrowing grid.now flat.now numbers.now joins.now.metal come.now
-        (record { net = part.net; joined = part.joined.items; boxes = part.slots.boxes.items; slots = part.slots.slots.items; hulls = part.hulls.items; ends = part.ends.items }) }
+        (record {
+          net = part.net;
+          joined = part.joined.items;
+          boxes = part.slots.boxes.items;
+          slots = part.slots.slots.items;
+          hulls = part.hulls.items;
+          ends = part.ends.items;
+        }) }
     ensures net { IfOk result (λ now. now.net ≡ part.net) }
     ensures joined { IfOk result (λ now. now.joined.items ≡ part.joined.items) }
-    ensures is { IfOk result (λ now. IsPartOf grid.now flat.now part.net now.joined.items numbers.now now.slots.boxes.items now.slots.slots.items now.hulls.items now.ends.items) }
+    ensures is { IfOk result (λ now. IsPartOf grid.now flat.now part.net now.joined.items numbers.now
+        now.slots.boxes.items now.slots.slots.items now.hulls.items now.ends.items) }
 {
     grid_is_sound(grid);
     let JoinedPart {
@@ -188,7 +219,8 @@ fn add_pieces<A: Allocator + Copy>(
     pieces: &[u32],
     found: &mut BoxedSlots<A>,
 ) -> Result<(), AllocError>
-    ensures { OnOk result (HaveGotSlots grid.now (MeetsPieces joins.now.metal pieces.now) found.old.boxes.items found.old.slots.items found.new.boxes.items found.new.slots.items) }
+    ensures { OnOk result (HaveGotSlots grid.now (MeetsPieces joins.now.metal pieces.now) found.old.boxes.items found.old.slots.items
+        found.new.boxes.items found.new.slots.items) }
 {
     for piece in pieces {
         add_metal(grid, joins.metal_of(*piece), found)?;
@@ -202,7 +234,8 @@ fn add_metal<A: Allocator + Copy>(
     metal: &[PieceShape],
     found: &mut BoxedSlots<A>,
 ) -> Result<(), AllocError>
-    ensures { OnOk result (HaveGotSlots grid.now (MeetsMetal metal.now) found.old.boxes.items found.old.slots.items found.new.boxes.items found.new.slots.items) }
+    ensures { OnOk result (HaveGotSlots grid.now (MeetsMetal metal.now) found.old.boxes.items found.old.slots.items
+        found.new.boxes.items found.new.slots.items) }
 {
     for shape in metal {
         add_slots_in(grid, shape.layer, &shape.rect, found)?;

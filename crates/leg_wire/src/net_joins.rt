@@ -44,7 +44,13 @@ impl<A: Allocator> Model for NetJoins<A> {
 
     ghost Value = { JoinsModel };
 
-    ghost view = { λ j. record { net = j.net; is_whole = j.is_whole; metal = j.metal.items; sets = j.groups.sets; given = take j.given (get_or j.groups.members.items 0 []) } };
+    ghost view = { λ j. record {
+      net = j.net;
+      is_whole = j.is_whole;
+      metal = j.metal.items;
+      sets = j.groups.sets;
+      given = take j.given (get_or j.groups.members.items 0 []);
+    } };
 
     ghost invariant = { λ j. IsKeptSet j.metal.items j.index j.groups.sets j.groups.members.items j.given };
 }
@@ -86,7 +92,8 @@ impl<A: Allocator + Copy> NetJoins<A> {
 
     /// Whether a piece is not joined to the first one: whether the net is open.
     pub fn is_one_apart(&self) -> bool
-        ensures { (design : DesignModel) (flat : FlatModel) → self.now.net < length design.nets → AreJoinsOf flat self.now → IsTrue result ↔ IsOpenNet design flat self.now.net }
+        ensures { (design : DesignModel) (flat : FlatModel) → self.now.net < length design.nets → AreJoinsOf flat self.now
+            → IsTrue result ↔ IsOpenNet design flat self.now.net }
     {
         self.groups.first().len() < self.groups.sets.len()
     }

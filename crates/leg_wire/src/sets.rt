@@ -74,7 +74,8 @@ impl<A: Allocator> Sets<A> {
         requires a { a < length self.old }
         requires b { b < length self.old }
         ensures united { AreUnited a b self.old self.new }
-        ensures merged { (one other : ℕ) → slice_get self.old a ≡ Some one → slice_get self.old b ≡ Some other → IsMerged (min one other) (max one other) self.old self.new }
+        ensures merged { (one other : ℕ) → slice_get self.old a ≡ Some one → slice_get self.old b ≡ Some other
+            → IsMerged (min one other) (max one other) self.old self.new }
     {
         let first = self.least(a);
         let second = self.least(b);
