@@ -73,14 +73,15 @@ def owner_of(kind, rest):
 
 def end_of(lines, at, indent):
     """Returns the places of the line where the body of the function that begins at this line does, and of its last line."""
-    body = None
+    body, depth = None, 0
     for here in range(at, len(lines)):
         line = lines[here]
+        depth += line.count('{') - line.count('}')
         closes_head = body is None and (here == at or line.startswith(indent + ')'))
         if line == indent + '{' or closes_head and line.endswith('{'):
             body = here
-        # (a declaration in a trait has no body: it ends with its last clause)
-        is_declared = body is None and line.endswith(';')
+        # (a declaration in a trait has no body: it ends with its last clause; a record in a clause may have lines of its own)
+        is_declared = body is None and not depth and line.endswith(';')
         if line.startswith(indent + '}') or line == indent + '{}' or is_declared or here == at and line.endswith('}'):
             return here if body is None else body, here
     return at, len(lines) - 1

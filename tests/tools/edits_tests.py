@@ -149,6 +149,12 @@ class SourceTests(Room):
         none = next(it for it in source.functions_below(self.crate) if it.path == 'more::none')
         self.assertEqual((none.first, none.body, none.last), (2, 4, 6))
 
+    def test_a_record_in_a_clause_may_have_lines_of_its_own(self):
+        clause = 'fn made(a: u8) -> Count\n    ensures { result ≡ record {\n      of = a;\n      more = 0;\n    } }\n{\n    Count { of: a }\n}\n'
+        self.file('crates/counts/src/more.rt', clause)
+        made = next(it for it in source.functions_below(self.crate) if it.path == 'more::made')
+        self.assertEqual((made.first, made.body, made.last), (1, 6, 8))
+
     def test_a_functions_module_is_that_of_its_type(self):
         self.file('crates/counts/src/more.rt', "impl<'a, T> Count<'a, T> {\n    fn is_one(&self) -> bool {\n        self.len() == 1\n    }\n}\n")
         self.assertIn('named::Count::is_one', [it.path for it in source.functions_below(self.crate)])
