@@ -122,14 +122,14 @@ impl<'t, 'a> Cursor<'t, 'a> {
     }
 }
 
-// The line of the first entry whose name is the word at fault, of the words at these places of the text, if that entry isn't the one at
-// fault.
+// The line of the first entry whose name is the word at fault, of the entries that begin with the first of these words, if that entry
+// isn't the one at fault.
 fn first_entry(text: &[u8], words: &[WordPlace], fault: &ReadFault) -> Option<u32> {
     let name = text.get(fault.start as usize..fault.end as usize)?;
-    let first = words
-        .windows(2)
-        .position(|two| begins_entry(text, two, name))?;
-    let named = words.get(first + 1)?;
+    let named = match words {
+        [dash, named, ..] if begins_entry(text, dash, named, name) => named,
+        _ => name_behind_an_entry(text, words, name)?,
+    };
     if named.start < fault.start {
         Some(named.line)
     } else {
@@ -137,12 +137,24 @@ fn first_entry(text: &[u8], words: &[WordPlace], fault: &ReadFault) -> Option<u3
     }
 }
 
-// Whether an entry of this name begins with the words at these places of the text.
-fn begins_entry(text: &[u8], words: &[WordPlace], name: &[u8]) -> bool {
-    match words {
-        [dash, named] => is_there(text, dash, b"-") && is_there(text, named, name),
+// The first of these words that is the name of an entry and this one, of the entries behind another: a `;` ends each.
+fn name_behind_an_entry<'w>(
+    text: &[u8],
+    words: &'w [WordPlace],
+    name: &[u8],
+) -> Option<&'w WordPlace> {
+    let end = words.windows(3).position(|three| match three {
+        [end, dash, named] => {
+            is_there(text, end, b";") && begins_entry(text, dash, named, name)
+        }
         _ => false,
-    }
+    })?;
+    words.get(end + 2)
+}
+
+// Whether these two words are those that an entry of this name begins with.
+fn begins_entry(text: &[u8], dash: &WordPlace, named: &WordPlace, name: &[u8]) -> bool {
+    is_there(text, dash, b"-") && is_there(text, named, name)
 }
 
 // Whether the word at this place of the text is this one.

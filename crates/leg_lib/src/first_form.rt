@@ -1,94 +1,89 @@
-//! Where a name that is defined a second time is first.
+//! Where a name that is defined a second time is first: the texts are read once more, up to the form that defines it.
 
 ghost use Rattle.std.specs.Prelude.{◌≡◌};
 
+use crate::form::form;
+use crate::macro_part::MacroParts;
 use crate::read::file_number;
 use leg_lex::{Cursor, FaultKind, NameKind, Need, ReadFault, file_words};
+use leg_lib_records::RawLibrary;
 use std::alloc::Allocator;
 
-/// The keyword of the forms that define such names, where LEFs have some.
-fn keyword_of(kind: NameKind) -> Option<&'static [u8]> {
+/// Whether a library has a layer, a site, a macro or a via of this name.
+fn defines<A: Allocator + Copy>(library: &RawLibrary<'_, A>, kind: NameKind, name: &[u8]) -> bool {
     match kind {
-        NameKind::Layer => Some(b"LAYER"),
-        NameKind::Site => Some(b"SITE"),
-        NameKind::Macro => Some(b"MACRO"),
-        NameKind::MacroPin => Some(b"PIN"),
-        NameKind::Via => Some(b"VIA"),
-        _ => None,
+        NameKind::Layer => library.layer_named(name).is_some(),
+        NameKind::Site => library.site_named(name).is_some(),
+        NameKind::Macro => library.master_named(name).is_some(),
+        NameKind::Via => library.via_named(name).is_some(),
+        _ => false,
     }
 }
 
-/// Whether a form of this keyword and of this name begins with these words, whose name is not the word at fault. Where a `;` comes
-/// after the name, a form is meant that was before.
-fn begins_form(words: &Cursor<'_, '_>, keyword: &[u8], name: &[u8], fault: &ReadFault) -> bool {
-    if !words.is_at(keyword) {
-        return false;
-    }
-    let mut form = words.again();
-    let _keyword = form.any();
-    let place = form.fault(FaultKind::DuplicateName);
-    match form.any() {
-        Ok(named) => {
-            let is_other = place.file != fault.file || place.start != fault.start;
-            named == name && is_other && !form.is_at(b";")
-        }
-        Err(_) => false,
-    }
+/// The line in which the next of these words is.
+fn line_of(words: &Cursor<'_, '_>) -> u32 {
+    words.fault(FaultKind::DuplicateName).line
 }
 
-/// The line in which the first form of this keyword and of this name begins, of these words, if one does.
-#[tactic(auto, using(leg_lex::proofs::ReadPast::next_shorter))]
-fn line_of_form(
-    words: &Cursor<'_, '_>,
-    keyword: &[u8],
+/// The line in which the first of these forms begins with which the library has such a name, if one does. The library gets what the
+/// forms up to there say.
+#[tactic(auto, using(crate::proofs::Forms::form_shorter))]
+fn line_of_form<'a, A: Allocator + Copy>(
+    alloc: A,
+    library: &mut RawLibrary<'a, A>,
+    words: &mut Cursor<'_, 'a>,
+    kind: NameKind,
     name: &[u8],
-    fault: &ReadFault,
 ) -> Option<u32> {
-    let mut rest = words.again();
-    'words: while !rest.is_at_end() {
-        if begins_form(&rest, keyword, name, fault) {
-            return Some(rest.fault(FaultKind::DuplicateName).line);
+    'forms: while !words.is_at_end() && !words.is_at(b"END") {
+        let line = line_of(words);
+        form(alloc, library, words).ok()?;
+        if defines(library, kind, name) {
+            return Some(line);
         }
-        rest.any().ok()?;
     }
     None
 }
 
-/// The words from the last macro on that begins before this byte of their text.
-#[tactic(auto, using(leg_lex::proofs::ReadPast::next_shorter))]
-fn from_macro<'t, 'a>(words: &Cursor<'t, 'a>, end: u32) -> Cursor<'t, 'a> {
-    let mut rest = words.again();
-    let mut start = words.again();
-    'words: while !rest.is_at_end() {
-        if rest.is_at(b"MACRO") && rest.fault(FaultKind::DuplicateName).start < end {
-            start = rest.again();
-        }
-        let Ok(_word) = rest.any() else {
-            return start;
-        };
-    }
-    start
-}
-
-/// The line in which the name at fault is defined first in the LEF of this number, if it is: a pin in its macro.
-fn line_in<A: Allocator + Copy>(
+/// The line in which the first pin of this name begins in the macro that comes next, if one does.
+#[tactic(auto, using(crate::proofs::MacroForms::macro_part_shorter))]
+fn line_of_pin<'a, A: Allocator + Copy>(
     alloc: A,
-    file: u32,
-    lef: &[u8],
-    fault: &ReadFault,
-    kind: NameKind,
+    library: &RawLibrary<'a, A>,
+    words: &mut Cursor<'_, 'a>,
     name: &[u8],
 ) -> Option<u32> {
-    let keyword = keyword_of(kind)?;
-    let words = file_words(alloc, file, lef).ok()?;
-    let words = Cursor::new(file, &words);
-    match kind {
-        NameKind::MacroPin => line_of_form(&from_macro(&words, fault.start), keyword, name, fault),
-        _ => line_of_form(&words, keyword, name, fault),
+    words.keyword(b"MACRO").ok()?;
+    words.name().ok()?;
+    let mut parts = MacroParts::new(alloc);
+    'parts: while !words.is_at(b"END") {
+        let line = line_of(words);
+        parts.macro_part(alloc, library, words).ok()?;
+        if parts.pin_names.place_of(name).is_some() {
+            return Some(line);
+        }
     }
+    None
 }
 
-/// The text and the line in which the name at fault, which is one of these, is defined first.
+/// The same of the first of these forms that cannot be read. The library gets what the forms before it say.
+#[tactic(auto, using(crate::proofs::Forms::form_shorter))]
+fn line_of_pin_at_fault<'a, A: Allocator + Copy>(
+    alloc: A,
+    library: &mut RawLibrary<'a, A>,
+    words: &mut Cursor<'_, 'a>,
+    name: &[u8],
+) -> Option<u32> {
+    'forms: while !words.is_at_end() && !words.is_at(b"END") {
+        let mut next = words.again();
+        if form(alloc, library, words).is_err() {
+            return line_of_pin(alloc, library, &mut next, name);
+        }
+    }
+    None
+}
+
+/// The text and the line in which the name at fault, which is one of these, is defined first: a pin in its macro.
 fn first_definition<A: Allocator + Copy>(
     alloc: A,
     lefs: &[&[u8]],
@@ -97,13 +92,18 @@ fn first_definition<A: Allocator + Copy>(
 ) -> Option<(u32, u32)> {
     let own = lefs.get(fault.file as usize)?;
     let name = own.get(fault.start as usize..fault.end as usize)?;
-    if kind == NameKind::MacroPin {
-        let line = line_in(alloc, fault.file, own, fault, kind, name)?;
-        return Some((fault.file, line));
-    }
+    let mut library = RawLibrary::new(alloc);
     for (number, lef) in lefs.iter().enumerate() {
         let file = file_number(number);
-        if let Some(line) = line_in(alloc, file, lef, fault, kind, name) {
+        let words = file_words(alloc, file, lef).ok()?;
+        let mut words = Cursor::new(file, &words);
+        let line = match kind {
+            NameKind::MacroPin => {
+                line_of_pin_at_fault(alloc, &mut library, &mut words, name)
+            }
+            _ => line_of_form(alloc, &mut library, &mut words, kind, name),
+        };
+        if let Some(line) = line {
             return Some((file, line));
         }
     }

@@ -16,7 +16,7 @@ use std::alloc::Allocator;
 
 /// One form.
 #[tactic(auto, unfolding(leg_grammar::specs::Lef::Form::lef_form_at))]
-fn form<'a, A: Allocator + Copy>(
+pub(crate) fn form<'a, A: Allocator + Copy>(
     alloc: A,
     library: &mut RawLibrary<'a, A>,
     words: &mut Cursor<'_, 'a>,

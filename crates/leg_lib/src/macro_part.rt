@@ -127,7 +127,7 @@ impl<'t, 'a, A: Allocator + Copy> MacroParts<'t, 'a, A> {
 
     /// One more part.
     #[tactic(auto, unfolding(leg_grammar::specs::Lef::Macro::macro_part))]
-    fn macro_part(
+    pub(crate) fn macro_part(
         &mut self,
         alloc: A,
         library: &RawLibrary<'a, A>,
