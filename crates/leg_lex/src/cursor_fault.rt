@@ -144,9 +144,7 @@ fn name_behind_an_entry<'w>(
     name: &[u8],
 ) -> Option<&'w WordPlace> {
     let end = words.windows(3).position(|three| match three {
-        [end, dash, named] => {
-            is_there(text, end, b";") && begins_entry(text, dash, named, name)
-        }
+        [end, dash, named] => { is_there(text, end, b";") && begins_entry(text, dash, named, name) }
         _ => false,
     })?;
     words.get(end + 2)

@@ -98,9 +98,7 @@ fn first_definition<A: Allocator + Copy>(
         let words = file_words(alloc, file, lef).ok()?;
         let mut words = Cursor::new(file, &words);
         let line = match kind {
-            NameKind::MacroPin => {
-                line_of_pin_at_fault(alloc, &mut library, &mut words, name)
-            }
+            NameKind::MacroPin => { line_of_pin_at_fault(alloc, &mut library, &mut words, name) }
             _ => line_of_form(alloc, &mut library, &mut words, kind, name),
         };
         if let Some(line) = line {

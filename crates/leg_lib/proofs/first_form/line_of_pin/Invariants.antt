@@ -1,5 +1,5 @@
 use Rattle.std.proofs.Common.{length}
 use Rattle.leg_lib.proofs.first_form.line_of_pin.Given as goal
 
-abbrev pub decreases-words : goal.decreases-words
-decreases-words l = length l.rest
+abbrev pub decreases-parts : goal.decreases-parts
+decreases-parts g l = length l.words
