@@ -26,6 +26,7 @@ mod ground;
 mod joined_part;
 mod kept_joins;
 pub mod laws;
+mod net_ends;
 mod net_turn;
 mod nets;
 mod next_wires;
