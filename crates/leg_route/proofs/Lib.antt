@@ -13,6 +13,8 @@ mod NetSlots
 mod JoinedSlots
 mod FarSlots
 mod EndSlots
+mod NetEnds
+mod EndGroups
 mod JoinedParts
 mod PartMarks
 mod KeptJoins

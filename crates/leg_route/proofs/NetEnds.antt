@@ -5,7 +5,7 @@ use Rattle.std.proofs.lemmas.Bool.{cases_lt}
 use Rattle.std.proofs.lemmas.List.{get_or_read}
 use Rattle.std.proofs.lemmas.List.Elements.{All-get_or, Contains-get_or, Contains-append_left, Contains-push, Contains-push_cases}
 use Rattle.std.proofs.lemmas.Option.{none-some, same_Some, slice_get_within}
-use Rattle.leg_sweep.proofs.Lists.{Contains-nil}
+use Rattle.leg_sweep.proofs.Lists.{Contains-nil, All-from_contains}
 use Rattle.leg_rules.specs.declared.node.Node.{Node}
 use Rattle.leg_rules.specs.Metal.Flat.{FlatModel}
 use Rattle.leg_route_grid.specs.declared.slot_box.SlotBox.{SlotBox}
@@ -49,6 +49,15 @@ net_ends_as grid joined Meets Meets2 Far Far2 ends meets meets_back far are = re
       are.all piece n apart (one_as grid (Meets2 piece) (Meets piece) (λ node holds. meets_back piece node low holds) n one);
 }
 
+-- the near ends are of slots of the grid, and no nearer than is noted
+pub near_ends_within : (grid : GridModel) (joined : List Bool) (Meets : ℕ → Node → Type 0) (Far : ℕ → ℕ → Type 0) (ends : EndsModel)
+    → AreNetEnds grid joined Meets Far ends → All (λ (end : EndSlot). end.slot < slot_total grid) ends.near
+near_ends_within grid joined Meets Far ends are = All-from_contains (λ (end : EndSlot). end.slot < slot_total grid) ends.near (λ end has. (are.near end has).within)
+
+pub near_ends_far : (grid : GridModel) (joined : List Bool) (Meets : ℕ → Node → Type 0) (Far : ℕ → ℕ → Type 0) (ends : EndsModel)
+    → AreNetEnds grid joined Meets Far ends → All (λ (end : EndSlot). Far end.least end.slot) ends.near
+near_ends_far grid joined Meets Far ends are = All-from_contains (λ (end : EndSlot). Far end.least end.slot) ends.near (λ end has. (are.near end has).least)
+
 -- where all ends of a list are kept
 pub ends_kept_all : (grid : GridModel) (flat : FlatModel) (net : ℕ) (joined : List Bool) (Meets : ℕ → Node → Type 0) (boxes : List SlotBox) (ends : List EndSlot)
     (kept : EndsModel) → AreEndSlots grid (IsApart joined) Meets (IsFarSlot grid flat net boxes) ends → AreKept grid ends kept
@@ -61,7 +70,7 @@ ends_kept_all grid flat net joined Meets boxes ends kept are had = record {
       record {
         marked = slice_get_within joined end.piece false is.apart;
         meets = is.meets;
-        far = far_fewer grid flat net boxes end.least group.least end.slot (had.least group end has is_in) is.least;
+        far = far_fewer grid flat net boxes end.least group.least end.slot (had.least group has end is_in) is.least;
       };
   all = λ piece n apart one.
       let old = are.all piece n apart one in

@@ -12,7 +12,7 @@ ghost use Rattle.leg_route.specs.Steps.NetEnds.{ends_in};
 ghost use Rattle.leg_route.specs.Steps.NetSlots.{IsPartOf};
 
 use crate::end_slots::{are_joined_from, ends_left, ends_of};
-use crate::net_ends::{NetEnds, net_ends, take_boxes};
+use crate::net_ends::{NetEnds, net_ends, note_boxes};
 use crate::next_wires::marked_slots;
 use leg_flat::Flat;
 use leg_route_grid::{BoxedSlots, Grid, Hull, add_hulls, add_slots_in, grid_is_sound, hulls_of};
@@ -210,7 +210,7 @@ fn grown_part<A: Allocator + Copy>(
     let come = &slots.boxes[first..];
     let come_hulls = hulls_of(alloc, come)?;
     ends.near = ends_left(alloc, grid, &ends.near, &joined, come, &come_hulls)?;
-    take_boxes(&mut ends.far, come, &come_hulls);
+    note_boxes(&mut ends.far, come, &come_hulls);
     Ok(JoinedPart {
         net,
         joined,

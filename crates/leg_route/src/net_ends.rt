@@ -8,7 +8,7 @@ ghost use Rattle.leg_route_grid.specs.Steps.Hulls.{AreHulls};
 ghost use Rattle.leg_route_grid.specs.Steps.WalkBounds.{IsBoxOf, IsInBox};
 ghost use Rattle.leg_route.specs.declared.end_slots.EndSlot.{EndSlot};
 ghost use Rattle.leg_route.specs.declared.net_ends.EndGroup.{EndGroup};
-ghost use Rattle.leg_route.specs.Steps.NetEnds.{ends_in, IsInGroup, IsGroupOf, AreGroups, AreKept, AreGroupsTo, AreGroupsFrom, HaveComeNear, IsWithin, AreBeyond, HaveGrownNear};
+ghost use Rattle.leg_route.specs.Steps.NetEnds.{ends_in, IsInGroup, IsGroupOf, HasLeast, AreGroups, AreKept, AreGroupsTo, IsGroupFrom, AreGroupsFrom, HaveComeNear, IsWithin, AreBeyond, HaveGrownNear};
 
 use crate::end_slots::EndSlot;
 use crate::next_wires::has_mark;
@@ -122,7 +122,7 @@ fn group_at<A: Allocator + Copy>(
     ensures first { result.first ≡ first }
     ensures count { result.count ≡ count }
     ensures is { IsGroupOf grid.now listed.now result }
-    ensures least { (end : EndSlot) → IsInGroup listed.now result end → result.least ≤ end.least }
+    ensures least { HasLeast listed.now result }
 {
     let slot = grid.slot(listed[first].slot);
     let mut group = EndGroup {
@@ -165,13 +165,26 @@ fn wider(ends: &SlotBox, slot: Slot) -> SlotBox
     }
 }
 
-/// Takes to the groups that these boxes, whose hulls these are, have come to those of the joined part.
-pub(crate) fn take_boxes(far: &mut [EndGroup], boxes: &[SlotBox], hulls: &[Hull])
-    requires hulls { AreHulls boxes.now hulls.now }
+/// Notes for each of the groups how few steps are left to it, now that these boxes, whose hulls these are, have come to the joined part.
+pub(crate) fn note_boxes(far: &mut [EndGroup], boxes: &[SlotBox], hulls: &[Hull])
+    requires { AreHulls boxes.now hulls.now }
     ensures { AreGroupsFrom boxes.now far.old far.new }
 {
     for k in 0..far.len() {
-        far[k].least = bound_of_box(boxes, hulls, &far[k].within, far[k].least);
+        far[k] = group_from(&far[k], boxes, hulls);
+    }
+}
+
+/// The same group, to which no more steps are left than from these boxes, whose hulls these are.
+fn group_from(group: &EndGroup, boxes: &[SlotBox], hulls: &[Hull]) -> EndGroup
+    requires { AreHulls boxes.now hulls.now }
+    ensures { IsGroupFrom boxes.now group.now result }
+{
+    EndGroup {
+        first: group.first,
+        count: group.count,
+        within: group.within,
+        least: bound_of_box(boxes, hulls, &group.within, group.least),
     }
 }
 
@@ -191,16 +204,48 @@ pub(crate) fn bring_near<A: Allocator + Copy>(
     requires hulls { AreHulls boxes.now hulls.now }
     ensures { OnOk result (HaveGrownNear grid.now joined.now boxes.now reach (ends_in ends.old) (ends_in ends.new)) }
 {
+    let left = groups_left(
+        alloc,
+        grid,
+        joined,
+        boxes,
+        hulls,
+        reach,
+        &ends.listed,
+        &ends.far,
+        &mut ends.near,
+    )?;
+    ends.far = left;
+    Ok(())
+}
+
+/// Those of the groups to which more than `reach` steps are left. The ends of the others are added to the near ones.
+fn groups_left<A: Allocator + Copy>(
+    alloc: A,
+    grid: &Grid<'_, '_, A>,
+    joined: &[bool],
+    boxes: &[SlotBox],
+    hulls: &[Hull],
+    reach: u32,
+    listed: &[EndSlot],
+    far: &[EndGroup],
+    near: &mut Vec<EndSlot, A>,
+) -> Result<Vec<EndGroup, A>, AllocError>
+    requires groups { AreGroups grid.now listed.now far.now }
+    requires boxes { All (IsBoxOf grid.now) boxes.now }
+    requires hulls { AreHulls boxes.now hulls.now }
+    ensures near { OnOk result (HaveComeNear grid.now joined.now boxes.now (IsWithin listed.now far.now reach) near.old.items near.new.items) }
+    ensures left { IfOk result (λ left. AreBeyond reach far.now left.items) }
+{
     let mut left = Vec::new(alloc);
-    for group in &ends.far {
+    for group in far {
         if group.least <= reach {
-            add_group(grid, &ends.listed, group, joined, boxes, hulls, &mut ends.near)?;
+            add_group(grid, listed, group, joined, boxes, hulls, near)?;
         } else {
             left.push(*group)?;
         }
     }
-    ends.far = left;
-    Ok(())
+    Ok(left)
 }
 
 /// Adds the ends of the group whose pieces are not joined to the near ones, each with how many steps are left to it.

@@ -103,9 +103,19 @@ fn gap_between(low: usize, high: usize, first: usize, last: usize) -> usize
 fn apart(ends: &SlotBox, other: &SlotBox) -> usize
     ensures { (s : Slot) → IsInBox other.now s → result ≤ slot_bound ends.now s }
 {
-    let layers = gap_between(ends.low.layer, ends.high.layer, other.low.layer, other.high.layer);
+    let layers = gap_between(
+        ends.low.layer,
+        ends.high.layer,
+        other.low.layer,
+        other.high.layer,
+    );
     let rows = gap_between(ends.low.row, ends.high.row, other.low.row, other.high.row);
-    let columns = gap_between(ends.low.column, ends.high.column, other.low.column, other.high.column);
+    let columns = gap_between(
+        ends.low.column,
+        ends.high.column,
+        other.low.column,
+        other.high.column,
+    );
     layers.saturating_add(rows).saturating_add(columns)
 }
 

@@ -42,7 +42,11 @@ pub record IsGroupOf (grid : GridModel) (listed : List EndSlot) (group : EndGrou
   pub room : group.first + group.count ≤ length listed
   pub each : (end : EndSlot) → IsInGroup listed group end → IsSlotWithin grid group.within end.slot
 
--- so of each of the groups
+-- to none of its ends fewer steps are left than to the group, as they are noted in the list
+abbrev pub HasLeast : List EndSlot → EndGroup → Type 0
+HasLeast listed group = (end : EndSlot) → IsInGroup listed group end → group.least ≤ end.least
+
+-- each of them is one such
 abbrev pub AreGroups : GridModel → List EndSlot → List EndGroup → Type 0
 AreGroups grid listed far = (group : EndGroup) → Contains far group → IsGroupOf grid listed group
 
@@ -77,13 +81,13 @@ pub record AreKept (grid : GridModel) (ends : List EndSlot) (kept : EndsModel) :
   pub near : (end : EndSlot) → Contains kept.near end → Contains ends end
   pub listed : (end : EndSlot) → Contains kept.listed end → Contains ends end
   pub grouped : AreGroups grid kept.listed kept.far
-  pub least : (group : EndGroup) (end : EndSlot) → Contains kept.far group → IsInGroup kept.listed group end → group.least ≤ end.least
+  pub least : (group : EndGroup) → Contains kept.far group → HasLeast kept.listed group
   pub all : (end : EndSlot) → Contains ends end → Contains kept.near end ⊎ IsFarIn kept.listed kept.far end
 
 -- the groups of the first ends of a list
 pub record AreGroupsTo (grid : GridModel) (listed : List EndSlot) (last : ℕ) (far : List EndGroup) : Type 0 where
   pub grouped : AreGroups grid listed far
-  pub least : (group : EndGroup) (end : EndSlot) → Contains far group → IsInGroup listed group end → group.least ≤ end.least
+  pub least : (group : EndGroup) → Contains far group → HasLeast listed group
   pub all : (end : EndSlot) → IsBetween listed 0 last end → IsFarIn listed far end
 
 -- the same group, which is no farther than before, nor than from the boxes
