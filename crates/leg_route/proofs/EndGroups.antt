@@ -16,6 +16,17 @@ use Rattle.leg_route.specs.declared.net_ends.EndGroup.{EndGroup}
 use Rattle.leg_route.specs.Steps.EndSlots.{IsApart, end_at}
 use Rattle.leg_route.specs.Steps.NetEnds.{EndsModel, IsBetween, IsInGroup, IsSlotWithin, IsGroupOf, HasLeast, AreGroups, IsFarIn, AreKept, AreGroupsTo, IsGroupFrom, AreGroupsFrom, IsEndFrom, HaveComeNear, IsWithin, AreBeyond}
 
+abbrev pub no_end : EndSlot
+no_end = record { piece = 0; slot = 0; least = 0 }
+
+abbrev pub no_group : EndGroup
+no_group = record {
+  first = 0;
+  count = 0;
+  within = record { low = record { layer = 0; row = 0; column = 0 }; high = record { layer = 0; row = 0; column = 0 } };
+  least = 0;
+}
+
 -- a slot of the grid that lies in a box
 pub slot_in : (grid : GridModel) (ends : SlotBox) (n : ℕ) (s : Slot) → n < slot_total grid → IsSlot grid n s.layer s.row s.column → IsInBox ends s
     → IsSlotWithin grid ends n

@@ -77,6 +77,16 @@ ends_kept_all grid flat net joined Meets boxes ends kept are had = record {
       record { end = old.0; is = had.all old.0 old.1; of_piece = old.2; of_slot = old.3 };
 }
 
+-- another end in the piece, of the slot
+like_end : (grid : GridModel) (joined : List Bool) (Meets : ℕ → Node → Type 0) (Far : ℕ → ℕ → Type 0) (old end : EndSlot) → end.piece ≡ old.piece
+    → end.slot ≡ old.slot → Far end.least end.slot → IsEndSlot grid (IsApart joined) Meets Far old → IsEndSlot grid (IsApart joined) Meets Far end
+like_end grid joined Meets Far old end piece slot far is = record {
+  apart = rw piece is.apart;
+  meets = rw (piece, slot) is.meets;
+  within = rw slot is.within;
+  least = far;
+}
+
 -- the same ends, of which other numbers of steps are known
 module _ (near after : List EndSlot) (same : AreSameEnds near after) where
   none : EndSlot
@@ -126,8 +136,7 @@ module _ (near after : List EndSlot) (same : AreSameEnds near after) where
   near_again grid joined Meets Far listed far known are = record {
     near = λ end has.
         let was = was_end end has in
-        let is = are.near was.old was.has in
-        record { apart = rw was.piece is.apart; meets = rw (was.piece, was.slot) is.meets; within = rw was.slot is.within; least = known end has };
+        like_end grid joined Meets Far was.old end was.piece was.slot (known end has) (are.near was.old was.has);
     grouped = are.grouped;
     far = are.far;
     all = λ piece n apart one.

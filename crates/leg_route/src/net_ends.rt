@@ -137,7 +137,7 @@ fn group_at<A: Allocator + Copy>(
     for k in first + 1..first + count {
         let end = listed[k];
         group = EndGroup {
-            first,
+            first: group.first,
             count: group.count + 1,
             within: wider(&group.within, grid.slot(end.slot)),
             least: group.least.min(end.least),

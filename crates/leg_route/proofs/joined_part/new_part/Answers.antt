@@ -6,9 +6,10 @@ use Rattle.leg_route.proofs.NetEnds.{ends_kept_all}
 use Rattle.leg_route.proofs.joined_part.new_part.Goals as goal
 
 pub net_ends-requires : goal.net_ends-requires
-net_ends-requires g c =
-    ends_within c.args.grid.now (IsApart c.deref-3.result.now) (MeetsPiece c.shapes-shapes.result.now c.args.numbers.now)
-    (IsBoundFrom c.args.grid.now c.deref-4.result.now) c.in_ok-ends.ends.items c.in_ok-ends.ensures
+net_ends-requires g c = record {
+  within = ends_within c.args.grid.now (IsApart c.deref-3.result.now) (MeetsPiece c.shapes-shapes.result.now c.args.numbers.now)
+      (IsBoundFrom c.args.grid.now c.deref-4.result.now) c.in_ok-ends.ends.items c.in_ok-ends.ensures;
+}
 
 pub returns-clause-is : goal.returns-clause-is
 returns-clause-is g c =
