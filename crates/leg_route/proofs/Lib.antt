@@ -19,3 +19,4 @@ mod JoinedParts
 mod PartMarks
 mod KeptJoins
 mod NextWalk
+mod NearWalk

@@ -179,10 +179,6 @@ fn walk_further<A: Allocator + Copy>(
     Ok(walk)
 }
 
-/// So many times a walk is looked for nearby at most. Each time `reach` grows twice as great at least, or to the steps of a walk, so no
-/// end is left out of the last.
-const ROUNDS: u32 = 40;
-
 /// Looks nearby for a shortest walk from the joined part of the net to the rest, among those ends to which no more than `reach` steps are
 /// left, and others that were near before. Where it finds none, or one that may not be a shortest, `left_out` is whether there may be
 /// a walk, `reach` is how far it is to be looked for then, and `limit` is how many steps a walk to one of these ends has at least.
@@ -218,6 +214,7 @@ fn walk_within<A: Allocator + Copy>(
     ensures unseen { AreUnseen marks.new }
     ensures untouched { touched.new.items ≡ [] }
 {
+    grid_is_sound(grid);
     bring_near(
         alloc,
         grid,
@@ -257,6 +254,57 @@ fn walk_within<A: Allocator + Copy>(
     Ok(None)
 }
 
+/// So many times a walk is looked for nearby at most. Each time it is looked for twice as far at least, or as far as a walk is long
+/// that was found, so no end is too far for the last one.
+const ROUNDS: u32 = 40;
+
+/// Looks nearby for a shortest walk from the joined part of the net to the rest, farther and farther. Where it finds none, `left_out`
+/// is whether there may be one, and `limit` is where a search that goes on begins.
+fn walk_near<A: Allocator + Copy>(
+    alloc: A,
+    grid: &Grid<'_, '_, A>,
+    flat: &Flat<A>,
+    slots: &[SlotAccess],
+    net: u32,
+    numbers: &[u32],
+    part: &mut JoinedPart<A>,
+    limit: &mut u64,
+    marks: &mut [Mark],
+    touched: &mut Vec<u32, A>,
+    left_out: &mut bool,
+) -> Result<Option<Vec<u32, A>>, AllocError>
+    requires told { IsAccessTable grid.now flat.now slots.now }
+    requires numbers { AreNumbersOf flat.now.shapes net numbers.now }
+    requires joined { AreMarks (AreJoined flat.now net 0) (piece_count flat.now net) part.old.joined.items }
+    requires part { IsPartOf grid.now flat.now net part.old.joined.items numbers.now
+        part.old.slots.boxes.items part.old.slots.slots.items part.old.hulls.items (ends_in part.old.ends) }
+    requires count { length marks.old ≡ slot_total grid.now }
+    requires unseen { AreUnseen marks.old }
+    requires untouched { touched.old.items ≡ [] }
+    ensures answer { IfOk result (λ walk. IsNearAnswerAt grid.now flat.now net left_out.new (option_map (λ numbers. numbers.items) walk)) }
+    ensures within { IfOk result (λ walk. IfSome walk (λ numbers. All (λ n. n < slot_total grid.now) numbers.items)) }
+    ensures part { OnOk result (IsPartOf grid.now flat.now net part.new.joined.items numbers.now
+        part.new.slots.boxes.items part.new.slots.slots.items part.new.hulls.items (ends_in part.new.ends)) }
+    ensures same_net { part.new.net ≡ part.old.net }
+    ensures same_joined { part.new.joined.items ≡ part.old.joined.items }
+    ensures count { length marks.new ≡ slot_total grid.now }
+    ensures unseen { AreUnseen marks.new }
+    ensures untouched { touched.new.items ≡ [] }
+{
+    let mut reach = first_reach(&part.ends);
+    'rounds: for _ in 0..ROUNDS {
+        let walk = walk_within(
+            alloc, grid, flat, slots, net, numbers, part, &mut reach, limit, marks, touched,
+            left_out,
+        )?;
+        if !*left_out || part.ends.far.is_empty() {
+            return Ok(walk);
+        }
+    }
+    *left_out = true;
+    Ok(None)
+}
+
 /// The numbers of the slots of a shortest open walk from the joined part of the net to the rest, or `None` where there is no such
 /// walk. The slots of the rest are looked for again where a search nearby finds no walk.
 fn next_walk<A: Allocator + Copy>(
@@ -288,32 +336,25 @@ fn next_walk<A: Allocator + Copy>(
     ensures untouched { touched.new.items ≡ [] }
 {
     let mut limit = 0;
-    let mut reach = first_reach(&part.ends);
-    for _ in 0..ROUNDS {
-        let mut left_out = false;
-        let near = walk_within(
-            alloc,
-            grid,
-            flat,
-            slots,
-            net,
-            numbers,
-            part,
-            &mut reach,
-            &mut limit,
-            marks,
-            touched,
-            &mut left_out,
-        )?;
-        if let Some(walk) = near {
-            return Ok(Some(walk));
-        }
-        if !left_out {
-            return Ok(None);
-        }
-        if part.ends.far.is_empty() {
-            break;
-        }
+    let mut left_out = false;
+    let near = walk_near(
+        alloc,
+        grid,
+        flat,
+        slots,
+        net,
+        numbers,
+        part,
+        &mut limit,
+        marks,
+        touched,
+        &mut left_out,
+    )?;
+    if let Some(walk) = near {
+        return Ok(Some(walk));
+    }
+    if !left_out {
+        return Ok(None);
     }
     let shapes = flat.shapes();
     let ends = marked_slots(alloc, grid, shapes, numbers, &part.joined, false)?;
