@@ -1,8 +1,6 @@
 -- Groups of ends: made from a list, told of boxes that come, and brought near, one after another.
-use Rattle.std.proofs.Common.{◌≡◌, ◌≢◌, ◌↔◌, ◌⊎◌, ◌+◌, ◌-◌, ◌<◌, ◌≤◌, ℕ, Bool, List, [], ◌∷◌, ◌++◌, length, min, get_or, All, Contains, Some, slice_get, slice_set, inl, inr, refl, sym, ap, subst, ◌∙◌, arith}
-use Rattle.std.proofs.Math.Nat.{min-le_left, min-le_right}
-use Rattle.std.proofs.lemmas.Bool.{cases_eq, cases_lt}
-use Rattle.std.proofs.lemmas.List.{get_or_read, length-set, get_or-set_same, get_or-set_other}
+use Rattle.std.proofs.Common.{◌≡◌, ◌⊎◌, ◌+◌, ◌<◌, ◌≤◌, ℕ, Bool, List, [], ◌∷◌, ◌++◌, length, get_or, Contains, Some, slice_get, inl, inr, refl, sym, ap, subst, ◌∙◌, arith}
+use Rattle.std.proofs.lemmas.Bool.{cases_lt}
 use Rattle.std.proofs.lemmas.List.Elements.{Contains-append_left, Contains-push, Contains-push_cases}
 use Rattle.std.proofs.lemmas.Option.{same_Some, slice_get_within, slice_get_read}
 use Rattle.leg_sweep.proofs.Lists.{Contains-nil}
@@ -14,7 +12,7 @@ use Rattle.leg_route_grid.proofs.Bounds.{slot_is}
 use Rattle.leg_route.specs.declared.end_slots.EndSlot.{EndSlot}
 use Rattle.leg_route.specs.declared.net_ends.EndGroup.{EndGroup}
 use Rattle.leg_route.specs.Steps.EndSlots.{IsApart, end_at}
-use Rattle.leg_route.specs.Steps.NetEnds.{EndsModel, IsBetween, IsInGroup, IsSlotWithin, IsGroupOf, HasLeast, AreGroups, IsFarIn, AreKept, AreGroupsTo, IsGroupFrom, AreGroupsFrom, IsEndFrom, HaveComeNear, IsWithin, AreBeyond}
+use Rattle.leg_route.specs.Steps.NetEnds.{IsBetween, IsInGroup, IsSlotWithin, IsGroupOf, HasLeast, AreKept, AreGroupsTo, IsGroupFrom, IsEndFrom, HaveComeNear, IsWithin, AreBeyond}
 
 abbrev pub no_end : EndSlot
 no_end = record { piece = 0; slot = 0; least = 0 }
@@ -90,13 +88,6 @@ module _ (grid : GridModel) (listed : List EndSlot) (first : ℕ) (end : EndSlot
   least_one other is_in = subst (λ (e : EndSlot). end.least ≤ e.least) (only other is_in) (omega arith)
 
 -- one group more of a list
-pub groups_none : (grid : GridModel) (listed : List EndSlot) → AreGroupsTo grid listed 0 []
-groups_none grid listed = record {
-  grouped = λ group has. absurd (Contains-nil group has);
-  least = λ group has. absurd (Contains-nil group has);
-  all = λ end is_in. let below = is_in.below in absurd (omega (arith, below));
-}
-
 pub groups_more : (grid : GridModel) (listed : List EndSlot) (far : List EndGroup) (first count : ℕ) (group : EndGroup) → AreGroupsTo grid listed first far
     → group.first ≡ first → group.count ≡ count → IsGroupOf grid listed group → HasLeast listed group
     → AreGroupsTo grid listed (first + count) (far ++ group ∷ [])
@@ -155,36 +146,8 @@ module _ (boxes : List SlotBox) (before : List EndGroup) where
     pub done : (j : ℕ) (d : EndGroup) → j < k → IsGroupFrom boxes (get_or before j d) (get_or far j d)
     pub rest : (j : ℕ) (d : EndGroup) → k ≤ j → get_or far j d ≡ get_or before j d
 
-  pub told_none : AreTold before 0
-  told_none = record { one_each = refl; done = λ j d below. absurd (omega (arith, below)); rest = λ j d from. refl }
-
-  pub told_more : (far : List EndGroup) (k : ℕ) (old group : EndGroup) → k < length far → old ≡ get_or far k old → IsGroupFrom boxes old group → AreTold far k
-      → AreTold (slice_set far k group) (k + 1)
-  told_more far k old group low is from so_far = record {
-    one_each = length-set far k group ∙ so_far.one_each;
-    done = λ j d below. elim (cases_eq j k) [
-      | inl same ↦
-          rw (same, get_or-set_same far k group d low)
-          (subst (λ (g : EndGroup). IsGroupFrom boxes g group) (get_or_read far k old low is d ∙ so_far.rest k d (omega arith)) from)
-      | inr other ↦ rw (get_or-set_other far k j group d other) (so_far.done j d (omega (arith, below, other)))
-    ];
-    rest = λ j d high.
-        let other : j ≢ k = λ same. absurd (omega (arith, high, same)) in
-        get_or-set_other far k j group d other ∙ so_far.rest j d (omega (arith, high));
-  }
-
-  pub told_all : (far : List EndGroup) (k : ℕ) → k ≡ length before → AreTold far k → AreGroupsFrom boxes before far
-  told_all far k all told = record { one_each = told.one_each; each = λ j d low. told.done j d (omega (arith, low, all)) }
-
 -- the ends of a group come near, one after another
 module _ (grid : GridModel) (joined : List Bool) (boxes : List SlotBox) (listed : List EndSlot) where
-  pub come_none : (first : ℕ) (near : List EndSlot) → HaveComeNear grid joined boxes (IsBetween listed first first) near near
-  come_none first near = record {
-    each = λ end has. inl has;
-    still = λ end has. has;
-    all = λ end is_in. let from = is_in.from in let below = is_in.below in absurd (omega (arith, from, below));
-  }
-
   module _ (first k : ℕ) (end : EndSlot) (low : first ≤ k) (there : slice_get listed k ≡ Some end) (before after : List EndSlot)
       (so_far : HaveComeNear grid joined boxes (IsBetween listed first k) before after) where
     longer : (other : EndSlot) → IsBetween listed first k other → IsBetween listed first (k + 1) other
@@ -238,13 +201,6 @@ module _ (grid : GridModel) (joined : List Bool) (boxes : List SlotBox) (listed 
     }
 
   -- and groups, one after another
-  pub within_none : (reach : ℕ) (near : List EndSlot) → HaveComeNear grid joined boxes (IsWithin listed [] reach) near near
-  within_none reach near = record {
-    each = λ end has. inl has;
-    still = λ end has. has;
-    all = λ end is_in. absurd (Contains-nil is_in.group is_in.has);
-  }
-
   module _ (reach : ℕ) (far : List EndGroup) (group : EndGroup) (before between : List EndSlot)
       (so_far : HaveComeNear grid joined boxes (IsWithin listed far reach) before between) where
     earlier : (end : EndSlot) → IsWithin listed far reach end → IsWithin listed (far ++ group ∷ []) reach end
@@ -300,9 +256,6 @@ module _ (grid : GridModel) (joined : List Bool) (boxes : List SlotBox) (listed 
     }
 
 -- the groups that are left
-pub beyond_none : (reach : ℕ) → AreBeyond reach [] []
-beyond_none reach group = (λ has. absurd (Contains-nil group has), λ has. absurd (Contains-nil group has.0))
-
 module _ (reach : ℕ) (far left : List EndGroup) (group : EndGroup) (so_far : AreBeyond reach far left) where
   pub beyond_more : (after : List EndGroup) → after ≡ left ++ group ∷ [] → reach < group.least → AreBeyond reach (far ++ group ∷ []) after
   beyond_more after is beyond =
@@ -331,9 +284,6 @@ module _ (reach : ℕ) (far left : List EndGroup) (group : EndGroup) (so_far : A
   )
 
 -- the least of groups
-pub least_none : (least : ℕ) (group : EndGroup) → Contains [] group → least ≤ group.least
-least_none least group has = absurd (Contains-nil group has)
-
 pub least_next : (far : List EndGroup) (group : EndGroup) (least now : ℕ) → ((other : EndGroup) → Contains far other → least ≤ other.least)
     → now ≤ least → now ≤ group.least → (other : EndGroup) → Contains (far ++ group ∷ []) other → now ≤ other.least
 least_next far group least now so_far upto here other has = elim (Contains-push_cases far group other has) [

@@ -1,5 +1,5 @@
 -- A walk to the nearest of the near ends, where all others are farther, and what is kept of the joined part meanwhile.
-use Rattle.std.proofs.Common.{◌≡◌, ◌↔◌, ◌+◌, ◌<◌, ◌≤◌, ◌++◌, ℕ, Bool, true, false, List, [], length, map, take, drop, All, Contains, Option, None, Some, inl, inr, subst, ◌∙◌, arith}
+use Rattle.std.proofs.Common.{◌≡◌, ◌≤◌, ◌++◌, ℕ, Bool, List, [], length, map, take, drop, All, Contains, Option, None, Some, inl, inr, subst, ◌∙◌, arith}
 use Rattle.std.proofs.lemmas.List.Elements.{All-contains}
 use Rattle.leg_sweep.proofs.Lists.{Contains-nil, Contains-map}
 use Rattle.leg_wire.specs.NetShapes.{AreNumbersOf}
@@ -8,7 +8,7 @@ use Rattle.leg_rules.specs.Metal.Flat.{FlatModel}
 use Rattle.leg_rules.specs.Joins.Touch.{piece_count, AreJoined}
 use Rattle.leg_rules.specs.Route.Meets.{MeetsJoined, MeetsRest}
 use Rattle.leg_rules.specs.Route.OpenMetal.{IsOpenNode, IsOpenStep}
-use Rattle.leg_rules.specs.Route.Walk.{Walk, IsShortest, NoWalk}
+use Rattle.leg_rules.specs.Route.Walk.{IsShortest, NoWalk}
 use Rattle.leg_route_search.specs.Steps.Dive.{IsOrigin}
 use Rattle.leg_route_grid.specs.declared.slot_box.SlotBox.{SlotBox}
 use Rattle.leg_route_grid.specs.declared.slot_access.SlotAccess.{SlotAccess}
@@ -22,7 +22,7 @@ use Rattle.leg_route.specs.declared.end_slots.EndSlot.{EndSlot}
 use Rattle.leg_route.specs.declared.net_ends.EndGroup.{EndGroup}
 use Rattle.leg_route.specs.Steps.EndSlots.{MeetsPiece, IsFarSlot, AreSameEnds}
 use Rattle.leg_route.specs.Steps.NetEnds.{EndsModel, HasEnd, HaveGrownNear}
-use Rattle.leg_route.specs.Steps.NetSlots.{AreMarkedSlots, IsPartOf, IsSearchFrom, IsNearestAt, IsNearAnswerAt}
+use Rattle.leg_route.specs.Steps.NetSlots.{IsPartOf, IsSearchFrom, IsNearestAt, IsNearAnswerAt}
 use Rattle.leg_route.proofs.NetSlots.{starts_are}
 use Rattle.leg_route.proofs.EndSlots.{all_new, end_rest, rest_piece}
 use Rattle.leg_route.proofs.NetEnds.{near_again, ends_near}

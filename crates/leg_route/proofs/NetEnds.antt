@@ -1,23 +1,21 @@
 -- What is kept of the ends of a net: for other reasons, when more is known, when boxes come, and when groups come near.
-use Rattle.std.proofs.Common.{◌≡◌, ◌⊎◌, ◌+◌, ◌-◌, ◌<◌, ◌≤◌, ℕ, Bool, false, List, [], ◌∷◌, ◌++◌, length, min, get_or, take, All, Contains, Some, slice_get, inl, inr, refl, sym, ap, subst, ◌∙◌, arith}
+use Rattle.std.proofs.Common.{◌≡◌, ◌<◌, ◌≤◌, ℕ, Bool, false, List, ◌++◌, length, min, get_or, All, Contains, inl, inr, sym, ap, subst, ◌∙◌, arith}
 use Rattle.std.proofs.Math.Nat.{min-le_right}
 use Rattle.std.proofs.lemmas.Bool.{cases_lt}
 use Rattle.std.proofs.lemmas.List.{get_or_read}
-use Rattle.std.proofs.lemmas.List.Elements.{All-get_or, Contains-get_or, Contains-append_left, Contains-push, Contains-push_cases}
-use Rattle.std.proofs.lemmas.Option.{none-some, same_Some, slice_get_within}
-use Rattle.leg_sweep.proofs.Lists.{Contains-nil, All-from_contains}
+use Rattle.std.proofs.lemmas.List.Elements.{Contains-get_or}
+use Rattle.std.proofs.lemmas.Option.{slice_get_within}
+use Rattle.leg_sweep.proofs.Lists.{All-from_contains}
 use Rattle.leg_rules.specs.declared.node.Node.{Node}
 use Rattle.leg_rules.specs.Metal.Flat.{FlatModel}
 use Rattle.leg_route_grid.specs.declared.slot_box.SlotBox.{SlotBox}
-use Rattle.leg_route_grid.specs.declared.hulls.Hull.{Hull}
 use Rattle.leg_route_grid.specs.Steps.WalkBounds.{bound_at, slot_of}
-use Rattle.leg_route_grid.specs.Steps.Grid.{GridModel, IsDesignGrid, IsNumberOf, slot_total}
-use Rattle.leg_route_grid.specs.Steps.NodeNumbers.{IsOneOf}
+use Rattle.leg_route_grid.specs.Steps.Grid.{GridModel, IsDesignGrid, slot_total}
 use Rattle.leg_route_laws.proofs.Places.{contains_at}
 use Rattle.leg_route.specs.declared.end_slots.EndSlot.{EndSlot}
 use Rattle.leg_route.specs.declared.net_ends.EndGroup.{EndGroup}
 use Rattle.leg_route.specs.Steps.EndSlots.{IsApart, IsFarSlot, IsEndSlot, AreEndSlots, AreSameEnds, end_at, end_from, AreEndsLeft}
-use Rattle.leg_route.specs.Steps.NetEnds.{EndsModel, IsBetween, IsInGroup, IsSlotWithin, IsGroupOf, AreGroups, IsFarIn, HasEnd, IsFarEnd, AreNetEnds, AreKept, AreGroupsTo, IsGroupFrom, AreGroupsFrom, IsEndFrom, HaveComeNear, IsWithin, HaveGrownNear}
+use Rattle.leg_route.specs.Steps.NetEnds.{EndsModel, IsInGroup, AreGroups, HasEnd, IsFarEnd, AreNetEnds, AreKept, IsGroupFrom, AreGroupsFrom, IsEndFrom, IsWithin, HaveGrownNear}
 use Rattle.leg_route.proofs.FarSlots.{far_by_boxes, far_joined, far_fewer}
 use Rattle.leg_route.proofs.JoinedSlots.{one_as}
 

@@ -1,5 +1,5 @@
 -- One end more, whose piece is not joined or is.
-use Rattle.std.proofs.Common.{◌≡◌, ◌+◌, ◌<◌, ◌≤◌, ℕ, Some, slice_get, get_or, length, refl, sym, ◌∙◌, true≢false, arith}
+use Rattle.std.proofs.Common.{◌≡◌, ◌+◌, ◌≤◌, ℕ, Some, slice_get, get_or, refl, sym, ◌∙◌, true≢false, arith}
 use Rattle.std.proofs.lemmas.Option.{same_Some, slice_get-get_or}
 use Rattle.leg_route.specs.declared.end_slots.EndSlot.{EndSlot}
 use Rattle.leg_route.specs.Steps.NetEnds.{IsInGroup}

@@ -1,5 +1,4 @@
 -- The ends of the group so far are near.
-use Rattle.std.proofs.Common.{◌≤◌}
 use Rattle.leg_route.specs.Steps.NetEnds.{IsBetween, HaveComeNear}
 use Rattle.leg_route.proofs.net_ends.add_group.Given as goal
 

@@ -1,4 +1,4 @@
-use Rattle.std.proofs.Common.{◌≡◌, refl}
+use Rattle.std.proofs.Common.{refl}
 use Rattle.leg_route.proofs.net_ends.bring_near.Goals as goal
 
 pub groups_left-requires-clause-groups : goal.groups_left-requires-clause-groups

@@ -1,5 +1,5 @@
 -- One group more.
-use Rattle.std.proofs.Common.{◌≡◌, ◌+◌, ◌-◌, ◌≤◌, ℕ, length, min, arith}
+use Rattle.std.proofs.Common.{◌-◌, ℕ, length, arith}
 use Rattle.std.proofs.Math.Nat.{min-le_left}
 use Rattle.leg_route.proofs.EndGroups.{groups_more}
 use Rattle.leg_route.proofs.net_ends.groups_of.Goals as goal

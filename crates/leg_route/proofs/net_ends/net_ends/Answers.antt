@@ -1,10 +1,10 @@
 -- All ends are near, or all in groups.
-use Rattle.std.proofs.Common.{◌<◌, All}
+use Rattle.std.proofs.Common.{◌<◌}
 use Rattle.std.proofs.lemmas.List.Elements.{All-contains}
 use Rattle.leg_sweep.proofs.Lists.{All-from_contains}
 use Rattle.leg_route_grid.specs.Steps.Grid.{slot_total}
 use Rattle.leg_route.specs.declared.end_slots.EndSlot.{EndSlot}
-use Rattle.leg_route.proofs.EndGroups.{kept_near, kept_far}
+use Rattle.leg_route.proofs.EndGroups.{kept_far}
 use Rattle.leg_route.proofs.net_ends.net_ends.Goals as goal
 
 pub groups_of-requires : goal.groups_of-requires

@@ -1,10 +1,8 @@
 use Rattle.std.proofs.Common.{◌≡◌, ◌↔◌, ℕ, [], map, All, Contains, length, refl, ap, ◌∙◌, arith}
 use Rattle.std.proofs.lemmas.Bool.Decides.{nat_tests}
 use Rattle.std.proofs.lemmas.List.{length-map, nil_from_length}
-use Rattle.leg_route_grid.specs.Steps.Grid.{IsNumberOf, slot_total}
+use Rattle.leg_route_grid.specs.Steps.Grid.{slot_total}
 use Rattle.leg_route_grid.specs.Steps.WalkBounds.{bound_at, IsNeighbourNear}
-use Rattle.leg_rules.specs.Route.Meets.{MeetsRest}
-use Rattle.leg_route_grid.specs.Steps.NodeNumbers.{IsOneOf}
 use Rattle.leg_route_grid.specs.Steps.AccessToNet.{IsNodeAdmitted, IsStepAdmitted}
 use Rattle.leg_route_search.specs.Steps.Walks.{IsStep}
 use Rattle.leg_route_search.specs.Steps.Dive.{IsOrigin, AreFar}

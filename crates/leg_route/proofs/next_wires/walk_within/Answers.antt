@@ -1,5 +1,5 @@
 -- Groups come near, and a walk to a near end is a next one where no group is as near.
-use Rattle.std.proofs.Common.{◌≡◌, ◌≤◌, ℕ, [], length, Contains, arith}
+use Rattle.std.proofs.Common.{◌≡◌, ◌≤◌, length, Contains, arith}
 use Rattle.std.proofs.lemmas.Bool.Decides.{nat_tests}
 use Rattle.std.proofs.lemmas.List.{nil_from_length}
 use Rattle.leg_route.specs.declared.net_ends.EndGroup.{EndGroup}
