@@ -1,90 +1,40 @@
 -- The slots at which walks of a net end: of a shape more, of those that are left, and by their numbers.
-use Rattle.std.proofs.Common.{◌≡◌, ◌↔◌, ◌⊎◌, ◌<◌, ◌≤◌, ◌-◌, ℕ, Bool, true, false, List, [], ◌∷◌, ◌++◌, length, map, take, drop, get_or, All, Contains, Some, slice_get, inl, inr, refl, sym, subst, ap, ◌∙◌, true≢false, arith}
+use Rattle.std.proofs.Common.{◌≡◌, ◌⊎◌, ◌<◌, ◌≤◌, ◌-◌, ℕ, Bool, true, false, List, [], ◌∷◌, ◌++◌, length, map, take, drop, get_or, All, Contains, Some, slice_get, inl, inr, refl, sym, subst, ap, ◌∙◌, true≢false, arith}
 use Rattle.std.proofs.Math.Nat.{min-le_right}
 use Rattle.std.proofs.lemmas.Bool.{cases_Bool, cases_lt}
 use Rattle.std.proofs.Math.Seq.{take-append_seam, drop-append_seam}
-use Rattle.std.proofs.lemmas.List.{get_or_read, length-drop, take_all}
-use Rattle.std.proofs.lemmas.List.Elements.{All-get_or, All-contains, Contains-get_or, Contains-append_left, Contains-append_right, Contains-append_cases, Contains-push, Contains-push_cases}
+use Rattle.std.proofs.lemmas.List.{length-drop, take_all}
+use Rattle.std.proofs.lemmas.List.Elements.{All-contains, Contains-append_left, Contains-append_right, Contains-append_cases, Contains-push, Contains-push_cases}
 use Rattle.std.proofs.lemmas.Option.{same_Some, slice_get_within, slice_get_read, slice_get-get_or}
 use Rattle.leg_sweep.proofs.Lists.{All-from_contains, Contains-map}
 use Rattle.leg_rules.specs.declared.shape.Shape.{Shape}
 use Rattle.leg_rules.specs.declared.node.Node.{Node}
 use Rattle.leg_rules.specs.Metal.Flat.{FlatModel}
 use Rattle.leg_route_grid.specs.declared.slot_box.SlotBox.{SlotBox}
-use Rattle.leg_route_grid.specs.declared.hulls.Hull.{Hull}
 use Rattle.leg_route_grid.specs.Steps.WalkBounds.{bound_at, IsBoxOf}
-use Rattle.leg_route_grid.specs.Steps.Grid.{GridModel, IsDesignGrid, IsNumberOf, slot_total}
+use Rattle.leg_route_grid.specs.Steps.Grid.{GridModel, IsNumberOf, slot_total}
 use Rattle.leg_route_grid.specs.Steps.NodeNumbers.{IsOneOf}
 use Rattle.leg_route_grid.specs.Steps.NodesInRect.{LiesInRect}
-use Rattle.leg_route.proofs.FarSlots.{far_joined}
 use Rattle.leg_wire.specs.NetShapes.{AreNumbersOf}
 use Rattle.leg_wire.specs.PieceMarks.{AreMarks}
 use Rattle.leg_rules.specs.Joins.Touch.{piece_count, AreJoined}
 use Rattle.leg_rules.specs.Route.Meets.{MeetsRest}
 use Rattle.leg_route_laws.proofs.Places.{comes_from}
-use Rattle.leg_route.specs.Steps.NetSlots.{MeetsMarked, IsPartOf}
+use Rattle.leg_route.specs.Steps.NetSlots.{MeetsMarked}
 use Rattle.leg_route.proofs.NetSlots.{meets_piece, rest_marked}
 use Rattle.leg_route.specs.declared.end_slots.EndSlot.{EndSlot}
-use Rattle.leg_route.specs.Steps.EndSlots.{IsApart, MeetsPiece, IsBoundFrom, IsFarSlot, IsEndSlot, AreEndSlots, AreSameEnds, end_at, HaveGotEnds, end_from, AreEndsLeft}
+use Rattle.leg_route.specs.Steps.EndSlots.{IsApart, MeetsPiece, IsBoundFrom, IsEndSlot, AreEndSlots, end_at, HaveGotEnds, end_from, AreEndsLeft}
 
--- the same ends for other reasons
-pub ends_as : (grid : GridModel) (Apart Apart2 : ℕ → Type 0) (Meets Meets2 : ℕ → Node → Type 0) (Far Far2 : ℕ → ℕ → Type 0) (ends : List EndSlot)
-    → ((piece : ℕ) → Apart piece → Apart2 piece) → ((piece : ℕ) → Apart2 piece → Apart piece)
-    → ((piece : ℕ) (node : Node) → Apart2 piece → Meets piece node → Meets2 piece node)
-    → ((piece : ℕ) (node : Node) → Apart2 piece → Meets2 piece node → Meets piece node)
-    → ((steps n : ℕ) → Far steps n → Far2 steps n) → AreEndSlots grid Apart Meets Far ends → AreEndSlots grid Apart2 Meets2 Far2 ends
-ends_as grid Apart Apart2 Meets Meets2 Far Far2 ends apart apart_back meets meets_back far are = record {
-  each = λ end has.
-      let is = are.each end has in
-      let then = apart end.piece is.apart in
-      record {
-        apart = then;
-        meets = record { node = is.meets.node; is = is.meets.is; holds = meets end.piece is.meets.node then is.meets.holds };
-        within = is.within;
-        least = far end.least end.slot is.least;
-      };
-  all = λ piece n then one. are.all piece n (apart_back piece then) (record { node = one.node; is = one.is; holds = meets_back piece one.node then one.holds });
-}
-
--- so where the same pieces are met
+-- the same ends, of which each is so far for another reason
 pub ends_farther : (grid : GridModel) (Apart : ℕ → Type 0) (Meets : ℕ → Node → Type 0) (Far Far2 : ℕ → ℕ → Type 0) (ends : List EndSlot)
     → ((steps n : ℕ) → Far steps n → Far2 steps n)
     → AreEndSlots grid Apart Meets Far ends → AreEndSlots grid Apart Meets Far2 ends
-ends_farther grid Apart Meets Far Far2 ends far are =
-    ends_as grid Apart Apart Meets Meets Far Far2 ends (λ piece apart. apart) (λ piece apart. apart) (λ piece node apart meets. meets)
-    (λ piece node apart meets. meets) far are
-
--- the same ends, of which other numbers of steps are known
-pub ends_again : (grid : GridModel) (Apart : ℕ → Type 0) (Meets : ℕ → Node → Type 0) (Far : ℕ → ℕ → Type 0) (ends after : List EndSlot) → AreSameEnds ends after
-    → All (λ (end : EndSlot). Far end.least end.slot) after → AreEndSlots grid Apart Meets Far ends → AreEndSlots grid Apart Meets Far after
-ends_again grid Apart Meets Far ends after same far are =
-    let none : EndSlot = record { piece = 0; slot = 0; least = 0 } in
-    record {
-      each = λ end has.
-          let k = has.0 in
-          let low : k < length ends = omega (arith, has.1, same.one_each) in
-          let is_after : get_or after k none ≡ end = sym (get_or_read after k end has.1 (sym has.2) none) in
-          let is = are.each (get_or ends k none) (Contains-get_or ends k none low) in
-          let piece = same.piece k none low in
-          let slot = same.slot k none low in
-          let then : IsEndSlot grid Apart Meets Far (get_or after k none) = record {
-            apart = rw piece is.apart;
-            meets = rw (piece, slot) is.meets;
-            within = rw slot is.within;
-            least = All-get_or (λ (end : EndSlot). Far end.least end.slot) after k none (omega (arith, has.1)) far;
-          } in
-          subst (λ (e : EndSlot). IsEndSlot grid Apart Meets Far e) is_after then;
-      all = λ piece n apart one.
-          let old = are.all piece n apart one in
-          let k = old.1.0 in
-          let low : k < length ends = old.1.1 in
-          let is_old : get_or ends k none ≡ old.0 = sym (get_or_read ends k old.0 low (sym old.1.2) none) in (
-            get_or after k none,
-            Contains-get_or after k none (omega (arith, low, same.one_each)),
-            same.piece k none low ∙ ap (λ (e : EndSlot). e.piece) is_old ∙ old.2,
-            same.slot k none low ∙ ap (λ (e : EndSlot). e.slot) is_old ∙ old.3,
-          );
-    }
+ends_farther grid Apart Meets Far Far2 ends far are = record {
+  each = λ end has.
+      let is = are.each end has in
+      record { apart = is.apart; meets = is.meets; within = is.within; least = far end.least end.slot is.least };
+  all = are.all;
+}
 
 -- one shape more
 module _ (grid : GridModel) (joined : List Bool) (shapes : List Shape) (numbers : List ℕ) (boxes : List SlotBox) (ends : List EndSlot)
@@ -228,26 +178,6 @@ was_apart before joined still later piece apart =
       | inr past ↦ absurd (true≢false (sym (later piece past low) ∙ now))
     ]
 
--- what is left of the ends, when boxes have come to those of the joined part
-pub ends_kept : (grid : GridModel) (flat : FlatModel) (net : ℕ) → IsDesignGrid grid
-    → (before joined : List Bool) (Meets : ℕ → Node → Type 0) (old come boxes : List SlotBox) (ends left : List EndSlot)
-    → boxes ≡ old ++ come → ((piece : ℕ) → IsApart joined piece → IsApart before piece)
-    → AreEndSlots grid (IsApart before) Meets (IsFarSlot grid flat net old) ends
-    → AreEndsLeft grid joined come ends left → AreEndSlots grid (IsApart joined) Meets (IsFarSlot grid flat net boxes) left
-ends_kept grid flat net is_grid before joined Meets old come boxes ends left boxes_are was had is = record {
-  each = λ end has.
-      let from = is.each end has in
-      let b = from.0 in
-      let one = had.each b from.1 in
-      let far = far_joined grid flat net is_grid old come b.least b.slot one.least in
-      let then : IsEndSlot grid (IsApart joined) Meets (IsFarSlot grid flat net boxes) (end_from grid come b) =
-      record { apart = from.2; meets = one.meets; within = one.within; least = rw boxes_are far } in
-      subst (λ (e : EndSlot). IsEndSlot grid (IsApart joined) Meets (IsFarSlot grid flat net boxes) e) (sym from.3) then;
-  all = λ piece n apart one.
-      let b = had.all piece n (was piece apart) one in
-      (end_from grid come b.0, is.all b.0 b.1 (rw b.2 apart), b.2, b.3);
-}
-
 -- the ends are of slots of the grid
 pub ends_within : (grid : GridModel) (Apart : ℕ → Type 0) (Meets : ℕ → Node → Type 0) (Far : ℕ → ℕ → Type 0) (ends : List EndSlot)
     → AreEndSlots grid Apart Meets Far ends
@@ -274,77 +204,61 @@ come_boxes grid all old more all_is each =
     (λ ends has. All-contains (IsBoxOf grid) all ends each
     (subst (λ (boxes : List SlotBox). Contains boxes ends) (sym all_is) (Contains-append_right old more ends has)))
 
--- the slots of nodes that meet the rest of a net are those of its ends
-pub rest_are : (flat : FlatModel) (net : ℕ) (numbers : List ℕ) (are : AreNumbersOf flat.shapes net numbers) (joined : List Bool)
-    (marks : AreMarks (AreJoined flat net 0) (piece_count flat net) joined)
-    (grid : GridModel) (Far : ℕ → ℕ → Type 0) (ends : List EndSlot) → AreEndSlots grid (IsApart joined) (MeetsPiece flat.shapes numbers) Far ends
-    → (n : ℕ) → Contains (map (λ (end : EndSlot). end.slot) ends) n ↔ IsOneOf (IsNumberOf grid) (MeetsRest flat net) n
-rest_are flat net numbers are joined marks grid Far ends ends_are n = (
-  λ has.
-      let from = comes_from (λ (end : EndSlot). end.slot) ends n has in
-      let is = ends_are.each from.0 from.1 in
+-- ends in pieces that are not joined, and the slots of nodes that meet the rest of a net
+module _ (flat : FlatModel) (net : ℕ) (numbers : List ℕ) (are : AreNumbersOf flat.shapes net numbers) (joined : List Bool)
+    (marks : AreMarks (AreJoined flat net 0) (piece_count flat net) joined) (grid : GridModel) where
+  -- the slot of an end is one of these
+  pub end_rest : (Far : ℕ → ℕ → Type 0) (end : EndSlot) → IsEndSlot grid (IsApart joined) (MeetsPiece flat.shapes numbers) Far end
+      → IsOneOf (IsNumberOf grid) (MeetsRest flat net) end.slot
+  end_rest Far end is =
       let one = is.meets in
       let m : MeetsMarked flat.shapes joined false numbers one.node = record {
         number = one.holds.number;
         listed = one.holds.listed;
         shape = one.holds.shape;
         there = one.holds.there;
-        marked = record { number = from.0.piece; is = one.holds.of_piece; marked = is.apart };
+        marked = record { number = end.piece; is = one.holds.of_piece; marked = is.apart };
         lies = one.holds.lies;
       } in
-      subst (λ k. IsOneOf (IsNumberOf grid) (MeetsRest flat net) k) from.2
-      (record {
+      record {
         node = one.node;
         is = one.is;
         holds = record {
-          piece = from.0.piece;
-          rest = λ joined_is. absurd (true≢false (sym ((marks.each from.0.piece false is.apart).1 joined_is)));
+          piece = end.piece;
+          rest = λ joined_is. absurd (true≢false (sym ((marks.each end.piece false is.apart).1 joined_is)));
           meets = meets_piece flat net numbers are joined marks false one.node m;
         };
-      }),
-  λ one.
+      }
+
+  -- the slot is that of a node that meets such a piece
+  pub record IsRestPiece (n : ℕ) : Type 0 where
+    pub piece : ℕ
+    pub apart : IsApart joined piece
+    pub meets : IsOneOf (IsNumberOf grid) (MeetsPiece flat.shapes numbers piece) n
+
+  pub rest_piece : (n : ℕ) → IsOneOf (IsNumberOf grid) (MeetsRest flat net) n → IsRestPiece n
+  rest_piece n one =
       let rest = one.holds in
-      let apart : IsApart joined rest.piece = rest_marked flat net numbers are joined marks rest.piece rest.meets.of_piece.there rest.rest in
       let lies = rest.meets in
       let k = lies.has.0 in
       let there : slice_get flat.shapes k ≡ Some lies.shape = slice_get_read flat.shapes _ k lies.shape refl lies.has.1 (sym lies.has.2) in
-      let end = ends_are.all rest.piece n apart
-      (record {
-        node = one.node;
-        is = one.is;
-        holds = record {
-          number = k;
-          listed = are.all k (record { shape = lies.shape; at = there; owner = lies.of_piece.owner });
-          shape = lies.shape;
-          there = there;
-          of_piece = lies.of_piece.piece;
-          lies = record { on_layer = sym lies.on_layer; inside = lies.inside };
+      record {
+        piece = rest.piece;
+        apart = rest_marked flat net numbers are joined marks rest.piece rest.meets.of_piece.there rest.rest;
+        meets = record {
+          node = one.node;
+          is = one.is;
+          holds = record {
+            number = k;
+            listed = are.all k (record { shape = lies.shape; at = there; owner = lies.of_piece.owner });
+            shape = lies.shape;
+            there = there;
+            of_piece = lies.of_piece.piece;
+            lies = record { on_layer = sym lies.on_layer; inside = lies.inside };
+          };
         };
-      }) in
-      subst (λ k. Contains (map (λ (end : EndSlot). end.slot) ends) k) end.3 (Contains-map (λ (end : EndSlot). end.slot) ends end.0 end.1),
-)
-
--- and how far each is
-pub ends_far : (grid : GridModel) (Apart : ℕ → Type 0) (Meets : ℕ → Node → Type 0) (Far : ℕ → ℕ → Type 0) (ends : List EndSlot)
-    → AreEndSlots grid Apart Meets Far ends
-    → All (λ (end : EndSlot). Far end.least end.slot) ends
-ends_far grid Apart Meets Far ends are = All-from_contains (λ (end : EndSlot). Far end.least end.slot) ends (λ end has. (are.each end has).least)
+      }
 
 -- a list of which all is written anew
 pub all_new : {X : Type 0} (new old : List X) (len : ℕ) → length new ≡ len → take len (new ++ drop (length new) old) ≡ new
 all_new new old len long = ap (λ n. take n (new ++ drop (length new) old)) (sym long) ∙ take-append_seam new (drop (length new) old)
-
--- what is kept of the joined part, when more is known of the ends
-pub part_again : (grid : GridModel) (flat : FlatModel) (net : ℕ) (joined : List Bool) (numbers : List ℕ) (boxes : List SlotBox) (slots : List ℕ)
-    (hulls : List Hull)
-    (ends after : List EndSlot) (len : ℕ) → length ends ≡ len → AreSameEnds ends after → All
-    (λ (end : EndSlot). IsFarSlot grid flat net boxes end.least end.slot) after
-    → IsPartOf grid flat net joined numbers boxes slots hulls ends
-    → IsPartOf grid flat net joined numbers boxes slots hulls (take len (after ++ drop (length after) ends))
-part_again grid flat net joined numbers boxes slots hulls ends after len long same far part =
-    rw (all_new after ends len (same.one_each ∙ long))
-    (record {
-      starts = part.starts;
-      hulled = part.hulled;
-      ends_are = ends_again grid (IsApart joined) (MeetsPiece flat.shapes numbers) (IsFarSlot grid flat net boxes) ends after same far part.ends_are;
-    })

@@ -1,5 +1,5 @@
 -- How many steps open walks to the slots of a net have at least: by boxes, when boxes come, when the flat grows, and as a search is told.
-use Rattle.std.proofs.Common.{◌≡◌, ◌+◌, ◌<◌, ◌≤◌, ℕ, List, [], ◌++◌, length, map, min, get_or, All, Contains, inl, inr, sym, ◌∙◌, arith}
+use Rattle.std.proofs.Common.{◌≡◌, ◌↔◌, ◌+◌, ◌<◌, ◌≤◌, ℕ, Bool, Option, None, Some, List, [], ◌++◌, length, map, min, get_or, All, Contains, inl, inr, sym, ◌∙◌, arith}
 use Rattle.std.proofs.Math.Nat.{min-le_left, min-le_right}
 use Rattle.std.proofs.lemmas.Bool.{cases_lt}
 use Rattle.std.proofs.lemmas.List.{get_or-map, length-map}
@@ -9,7 +9,9 @@ use Rattle.leg_design_records.specs.declared.records.Wire.{Wire}
 use Rattle.leg_rules.specs.declared.shape.Shape.{Shape}
 use Rattle.leg_rules.specs.Metal.Flat.{FlatModel}
 use Rattle.leg_rules.specs.Route.OpenMetal.{IsOpenWire, IsOpenNode, IsOpenStep}
+use Rattle.leg_rules.specs.Route.Meets.{MeetsJoined}
 use Rattle.leg_route_search.specs.Steps.Walks.{IsStep}
+use Rattle.leg_route_search.specs.Steps.Search.{IsRound}
 use Rattle.leg_route_search.specs.Steps.Dive.{IsOrigin, AreFar}
 use Rattle.leg_route_search.proofs.WalksBack.{back_holds}
 use Rattle.leg_route_grid.specs.declared.slot_access.SlotAccess.{SlotAccess}
@@ -22,9 +24,10 @@ use Rattle.leg_route_grid.specs.Steps.AccessToNet.{IsNodeAdmitted, IsStepAdmitte
 use Rattle.leg_route_grid.proofs.AccessSteps.{node_admitted, step_admitted}
 use Rattle.leg_route_grid.proofs.Bounds.{beside_near, nearest_both}
 use Rattle.leg_route_grid.proofs.OpenSteps.{steps_have_sides}
-use Rattle.leg_route_grid.proofs.TableNumbers.{walk_as}
+use Rattle.leg_route_grid.proofs.TableNumbers.{walk_as, shortest_as, none_as}
 use Rattle.leg_route.specs.declared.end_slots.EndSlot.{EndSlot}
 use Rattle.leg_route.specs.Steps.EndSlots.{IsBoundFrom, IsFarSlot, AreSameEnds}
+use Rattle.leg_route.specs.Steps.NetSlots.{IsNearestAt}
 
 -- the slot of this number is open to the net
 abbrev OpenAt : GridModel → FlatModel → ℕ → ℕ → Type 0
@@ -33,6 +36,11 @@ OpenAt grid flat net n = IsOneOf (IsNumberOf grid) (IsOpenNode grid.design flat 
 -- and so is the step from the one to the other
 abbrev StepAt : GridModel → FlatModel → ℕ → ℕ → ℕ → Type 0
 StepAt grid flat net m n = IsStepOf (IsNumberOf grid) (IsOpenStep grid.design flat net) m n
+
+-- where no walk has fewer steps than these, none has fewer than fewer of them
+pub far_fewer : (grid : GridModel) (flat : FlatModel) (net : ℕ) (boxes : List SlotBox) (steps fewer n : ℕ) → fewer ≤ steps
+    → IsFarSlot grid flat net boxes steps n → IsFarSlot grid flat net boxes fewer n
+far_fewer grid flat net boxes steps fewer n upto far from nodes start walk = let is = far from nodes start walk in omega (arith, upto, is)
 
 module _ (grid : GridModel) (flat : FlatModel) (net : ℕ) (is_grid : IsDesignGrid grid) where
   -- a step comes one further at most from some boxes
@@ -148,3 +156,33 @@ module _ (grid : GridModel) (flat : FlatModel) (slots : List SlotAccess) (net : 
       let one = walk_as (OpenAt grid flat net) (IsNodeAdmitted slots net) (StepAt grid flat net) StepAdmitted
       (λ n is_open. (node_admitted grid flat slots told net n).1 is_open) open_step (rw slot at walk) in
       rw least (known.each k (omega (arith, low, long)) from nodes start one))
+
+  -- what it finds is a walk to the nearest of the ends
+  module _ (starts : List ℕ) (are : (n : ℕ) → Contains starts n ↔ IsOneOf (IsNumberOf grid) (MeetsJoined flat net) n)
+      (origins : (n : ℕ) → Contains starts n ↔ IsOrigin (slot_total grid) (λ n. bound_at grid origin n) n) (ends : List ℕ) where
+    abbrev Origin : ℕ → Type 0
+    Origin n = IsOrigin (slot_total grid) (λ n. bound_at grid origin n) n
+
+    abbrev Joined : ℕ → Type 0
+    Joined n = IsOneOf (IsNumberOf grid) (MeetsJoined flat net) n
+
+    opens : (n : ℕ) → IsNodeAdmitted slots net n ↔ OpenAt grid flat net n
+    opens n = node_admitted grid flat slots told net n
+
+    steps_open : (m n : ℕ) → StepAdmitted m n ↔ StepAt grid flat net m n
+    steps_open m n = (step_open m n, open_step m n)
+
+    begun : (n : ℕ) → IsNodeAdmitted slots net n → Origin n ↔ Joined n
+    begun n is_open = (λ is. (are n).0 ((origins n).1 is), λ is. (origins n).0 ((are n).1 is))
+
+    ended : (n : ℕ) → IsNodeAdmitted slots net n → Contains ends n ↔ Contains ends n
+    ended n is_open = (λ is. is, λ is. is)
+
+    pub found_nearest : (left_out : Bool) (answer : Option (List ℕ)) → IsRound (IsNodeAdmitted slots net) StepAdmitted Origin (Contains ends) left_out answer
+        → IsNearestAt grid flat net ends left_out answer
+    found_nearest left_out None none = λ closed.
+        none_as (IsNodeAdmitted slots net) (OpenAt grid flat net) StepAdmitted (StepAt grid flat net) Origin (Contains ends) Joined (Contains ends) opens steps_open
+        begun ended (none closed)
+    found_nearest left_out (Some numbers) is =
+        shortest_as (IsNodeAdmitted slots net) (OpenAt grid flat net) StepAdmitted (StepAt grid flat net) Origin (Contains ends) Joined (Contains ends) opens
+        steps_open begun ended numbers is

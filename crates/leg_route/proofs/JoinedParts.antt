@@ -22,13 +22,13 @@ use Rattle.leg_route_grid.specs.declared.hulls.Hull.{Hull}
 use Rattle.leg_route_grid.specs.Steps.WalkBounds.{bound_at, IsBoxOf}
 use Rattle.leg_route_grid.specs.Steps.Grid.{GridModel, slot_total}
 use Rattle.leg_route_laws.proofs.Places.{is_like, comes_from}
-use Rattle.leg_route.specs.declared.end_slots.EndSlot.{EndSlot}
-use Rattle.leg_route.specs.Steps.EndSlots.{IsApart, MeetsPiece, IsFarSlot}
+use Rattle.leg_route.specs.Steps.EndSlots.{MeetsPiece, IsFarSlot}
+use Rattle.leg_route.specs.Steps.NetEnds.{EndsModel}
 use Rattle.leg_route.specs.Steps.NetSlots.{MeetsMarked, IsPartOf}
 use Rattle.leg_route.specs.Steps.JoinedPart.{PartModel, MeetsPart, LiesInPiece, IsJoinedPart}
 use Rattle.leg_route.proofs.JoinedSlots.{one_as}
 use Rattle.leg_route.proofs.FarSlots.{far_grows}
-use Rattle.leg_route.proofs.EndSlots.{ends_as}
+use Rattle.leg_route.proofs.NetEnds.{net_ends_as}
 use Rattle.leg_route.proofs.MoreWires.{count_at, count_as, with_count, one_piece, step_pieces}
 
 -- a piece that is joined has its mark
@@ -40,8 +40,8 @@ marked_joined joined Is size marks k low is =
 
 -- of no pieces
 pub part_none : (grid : GridModel) (flat : FlatModel) (net : ℕ) (joined : List Bool) (boxes : List SlotBox) (slots : List ℕ) (hulls : List Hull)
-    (ends : List EndSlot)
-    → joined ≡ [] → boxes ≡ [] → slots ≡ [] → hulls ≡ [] → ends ≡ []
+    (ends : EndsModel)
+    → joined ≡ [] → boxes ≡ [] → slots ≡ [] → hulls ≡ [] → ends ≡ record { near = []; listed = []; far = [] }
     → IsJoinedPart grid flat (record { net = net; joined = joined; boxes = boxes; slots = slots; hulls = hulls; ends = ends })
 part_none grid flat net joined boxes slots hulls ends joined_is boxes_is slots_is hulls_is ends_is =
     rw (joined_is, boxes_is, slots_is, hulls_is, ends_is)
@@ -54,7 +54,12 @@ part_none grid flat net joined boxes slots hulls ends joined_is boxes_is slots_i
       within = All-nil (λ n. n < slot_total grid);
       boxed = record { corners = All-nil (IsBoxOf grid); inside = All-nil (λ n. bound_at grid [] n ≡ 0); only = λ n within none. absurd (omega (arith, none)) };
       hulled = record { one_each = refl; each = λ k hull there. absurd (none-some hull there) };
-      ends_are = record { each = λ end has. absurd (Contains-nil end has); all = λ piece n apart one. absurd (none-some false apart) };
+      ends_are = record {
+        near = λ end has. absurd (Contains-nil end has);
+        grouped = λ group has. absurd (Contains-nil group has);
+        far = λ group end has is_in. absurd (Contains-nil group has);
+        all = λ piece n apart one. absurd (none-some false apart);
+      };
     })
 
 same_net : (m n : ℕ) → Net m ≡ Net n → m ≡ n
@@ -186,13 +191,10 @@ module _ (design : DesignModel) (net : ℕ) (wire : records.Wire) (before after 
         within = had.within;
         boxed = had.boxed;
         hulled = had.hulled;
-        ends_are = ends_as grid (IsApart part.joined) (IsApart part.joined) (LiesInPiece before n) (LiesInPiece after n) (IsFarSlot grid before n part.boxes)
+        ends_are = net_ends_as grid part.joined (LiesInPiece before n) (LiesInPiece after n) (IsFarSlot grid before n part.boxes)
             (IsFarSlot grid after n part.boxes) part.ends
-            (λ piece apart. apart) (λ piece apart. apart)
-            (λ piece node apart lies. lies_on n piece node.layer node.at lies)
-            (λ piece node apart lies.
-            let within = slice_get_within part.joined piece false apart in
-            lies_back n piece node.layer node.at (omega (arith, within, few)) lies)
+            (λ piece node low lies. lies_on n piece node.layer node.at lies)
+            (λ piece node low lies. lies_back n piece node.layer node.at (omega (arith, low, few)) lies)
             (far_grows grid n before after shapes_on part.boxes) had.ends_are;
       }
 
@@ -230,8 +232,8 @@ module _ (flat : FlatModel) (net : ℕ) (numbers : List ℕ) (are : AreNumbersOf
         lies = record { on_layer = sym lies.on_layer; inside = lies.inside };
       }
 
-  lies_numbered : (piece : ℕ) (node : Node) → IsApart joined piece → LiesInPiece flat net piece node → MeetsPiece flat.shapes numbers piece node
-  lies_numbered piece node apart lies =
+  lies_numbered : (piece : ℕ) (node : Node) → piece < length joined → LiesInPiece flat net piece node → MeetsPiece flat.shapes numbers piece node
+  lies_numbered piece node low lies =
       let k = lies.has.0 in
       let there : slice_get flat.shapes k ≡ Some lies.shape = slice_get_read flat.shapes _ k lies.shape refl lies.has.1 (sym lies.has.2) in
       record {
@@ -243,20 +245,19 @@ module _ (flat : FlatModel) (net : ℕ) (numbers : List ℕ) (are : AreNumbersOf
         lies = record { on_layer = sym lies.on_layer; inside = lies.inside };
       }
 
-  numbered_lies : (piece : ℕ) (node : Node) → IsApart joined piece → MeetsPiece flat.shapes numbers piece node → LiesInPiece flat net piece node
-  numbered_lies piece node apart m =
+  numbered_lies : (piece : ℕ) (node : Node) → piece < length joined → MeetsPiece flat.shapes numbers piece node → LiesInPiece flat net piece node
+  numbered_lies piece node low m =
       let of_net = are.each m.number m.listed in
       let same : m.shape ≡ of_net.shape = same_Some m.shape of_net.shape (sym m.there ∙ of_net.at) in
-      let within = slice_get_within joined piece false apart in
       record {
         shape = m.shape;
         has = (m.number, slice_get_within flat.shapes m.number m.shape m.there, get_or_from_slice_get flat.shapes m.number m.shape m.shape m.there);
-        of_piece = record { there = omega (arith, within, few); owner = ap (λ (s : Shape). s.owner) same ∙ of_net.owner; piece = m.of_piece };
+        of_piece = record { there = omega (arith, low, few); owner = ap (λ (s : Shape). s.owner) same ∙ of_net.owner; piece = m.of_piece };
         on_layer = sym m.lies.on_layer;
         inside = m.lies.inside;
       }
 
-  module _ (grid : GridModel) (boxes : List SlotBox) (slots : List ℕ) (hulls : List Hull) (ends : List EndSlot) where
+  module _ (grid : GridModel) (boxes : List SlotBox) (slots : List ℕ) (hulls : List Hull) (ends : EndsModel) where
     -- what is kept, by these numbers
     pub part_has : IsJoinedPart grid flat (record { net = net; joined = joined; boxes = boxes; slots = slots; hulls = hulls; ends = ends })
         → IsPartOf grid flat net joined numbers boxes slots hulls ends
@@ -270,9 +271,8 @@ module _ (flat : FlatModel) (net : ℕ) (numbers : List ℕ) (are : AreNumbersOf
         boxed = part.boxed;
       };
       hulled = part.hulled;
-      ends_are = ends_as grid (IsApart joined) (IsApart joined) (LiesInPiece flat net) (MeetsPiece flat.shapes numbers) (IsFarSlot grid flat net boxes)
-          (IsFarSlot grid flat net boxes) ends
-          (λ piece apart. apart) (λ piece apart. apart) lies_numbered numbered_lies (λ steps n far. far) part.ends_are;
+      ends_are = net_ends_as grid joined (LiesInPiece flat net) (MeetsPiece flat.shapes numbers) (IsFarSlot grid flat net boxes)
+          (IsFarSlot grid flat net boxes) ends lies_numbered numbered_lies (λ steps n far. far) part.ends_are;
     }
 
     -- and what is to be kept
@@ -291,9 +291,8 @@ module _ (flat : FlatModel) (net : ℕ) (numbers : List ℕ) (are : AreNumbersOf
       within = had.starts.within;
       boxed = had.starts.boxed;
       hulled = had.hulled;
-      ends_are = ends_as grid (IsApart joined) (IsApart joined) (MeetsPiece flat.shapes numbers) (LiesInPiece flat net) (IsFarSlot grid flat net boxes)
-          (IsFarSlot grid flat net boxes) ends
-          (λ piece apart. apart) (λ piece apart. apart) numbered_lies lies_numbered (λ steps n far. far) had.ends_are;
+      ends_are = net_ends_as grid joined (MeetsPiece flat.shapes numbers) (LiesInPiece flat net) (IsFarSlot grid flat net boxes)
+          (IsFarSlot grid flat net boxes) ends numbered_lies lies_numbered (λ steps n far. far) had.ends_are;
     }
 
 -- what is kept of this net, by the numbers of its shapes

@@ -13,7 +13,10 @@ mod NetSlots
 mod JoinedSlots
 mod FarSlots
 mod EndSlots
+mod NetEnds
+mod EndGroups
 mod JoinedParts
 mod PartMarks
 mod KeptJoins
 mod NextWalk
+mod NearWalk

@@ -14,22 +14,20 @@ use Rattle.leg_route_grid.specs.declared.slot_access.SlotAccess.{SlotAccess}
 use Rattle.leg_route_grid.specs.declared.slot_box.SlotBox.{SlotBox}
 use Rattle.leg_route_grid.specs.Steps.WalkBounds.{bound_at, AreBoxed, IsNeighbourNear}
 use Rattle.leg_route_grid.specs.Steps.Grid.{GridModel, IsNumberOf, slot_total}
-use Rattle.leg_rules.specs.Route.Meets.{MeetsJoined, MeetsRest}
+use Rattle.leg_rules.specs.Route.Meets.{MeetsJoined}
 use Rattle.leg_route_grid.specs.Steps.AccessToNet.{IsNodeAdmitted, IsStepAdmitted}
 use Rattle.leg_route_grid.specs.Steps.NodeNumbers.{IsOneOf, IsNextWalkAt, HasNoWalkAt}
 use Rattle.leg_rules.specs.Route.Run.{IsNextWalk}
-use Rattle.leg_route.specs.Steps.NetSlots.{IsNextAnswerAt, IsNearAnswerAt}
+use Rattle.leg_route.specs.Steps.NetSlots.{IsNextAnswerAt, IsNearestAt}
 
--- where a walk can't end, there is none
-pub no_ends : (grid : GridModel) (flat : FlatModel) (net : ℕ) (ends : List ℕ) → ((n : ℕ) → Contains ends n ↔ IsOneOf (IsNumberOf grid) (MeetsRest flat net) n)
-    → ends ≡ [] → HasNoWalkAt grid flat net
-no_ends grid flat net ends are none a b nodes start is_end walk = Contains-nil b (subst (λ xs. Contains xs b) none ((are b).1 is_end))
+-- where a walk can't begin, there is none
+pub no_starts : (grid : GridModel) (flat : FlatModel) (net : ℕ) (starts ends : List ℕ)
+    → ((n : ℕ) → Contains starts n ↔ IsOneOf (IsNumberOf grid) (MeetsJoined flat net) n) → starts ≡ [] → (left_out : Bool) → IsNearestAt grid flat net ends left_out None
+no_starts grid flat net starts ends are none left_out closed a b nodes start is_end walk = Contains-nil a (subst (λ xs. Contains xs a) none ((are a).1 start))
 
--- where it can't begin, there is none either
-pub no_starts : (grid : GridModel) (flat : FlatModel) (net : ℕ) (starts : List ℕ)
-    → ((n : ℕ) → Contains starts n ↔ IsOneOf (IsNumberOf grid) (MeetsJoined flat net) n)
-    → starts ≡ [] → HasNoWalkAt grid flat net
-no_starts grid flat net starts are none a b nodes start is_end walk = Contains-nil a (subst (λ xs. Contains xs a) none ((are a).1 start))
+-- nor where it can't end
+pub no_ends : (grid : GridModel) (flat : FlatModel) (net : ℕ) (ends : List ℕ) → ends ≡ [] → (left_out : Bool) → IsNearestAt grid flat net ends left_out None
+no_ends grid flat net ends none left_out closed a b nodes start is_end walk = Contains-nil b (subst (λ xs. Contains xs b) none is_end)
 
 -- what a search answers whose walks begin and end in these slots
 module _ (grid : GridModel) (flat : FlatModel) (slots : List SlotAccess) (net : ℕ) (origin around : List SlotBox) (starts ends : List ℕ) where
@@ -86,12 +84,6 @@ module _ (grid : GridModel) (flat : FlatModel) (slots : List SlotAccess) (net : 
     walk = is.walk;
     least = λ a b others start stop walk. is.least a b others ((origins a).0 start) stop walk;
   }
-
-  pub near_at : ((numbers : List ℕ) → IsWalk grid flat slots net origin around starts ends numbers → IsNextWalkAt grid flat net numbers)
-      → (IsNone grid flat slots net origin around starts ends → HasNoWalkAt grid flat net)
-      → (left : Bool) (answer : Option (List ℕ)) → IsNearby left answer → IsNearAnswerAt grid flat net left answer
-  near_at walks none left None is = λ closed. none (λ a b nodes start stop walk. is closed a b nodes ((origins a).0 start) stop walk)
-  near_at walks none left (Some numbers) is = walks numbers (walk_from numbers is)
 
   pub near_within : ((numbers : List ℕ) → IsWalk grid flat slots net origin around starts ends numbers → All (λ n. n < slot_total grid) numbers)
       → {V : Type 0} (items : V → List ℕ) (left : Bool) (walk : Option V) → IsNearby left (option_map items walk)

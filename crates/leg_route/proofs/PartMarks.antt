@@ -175,6 +175,9 @@ module _ (grid : GridModel) (flat : FlatModel) (net : ℕ) (part : PartModel) (c
         before = part.joined;
         had = rw of_net (part_had grid flat part net numbers of_net numbers_are had);
         still = λ k at. (have.marked k).1 (inl at);
+        long =
+            let few : length part.joined ≤ piece_count flat net = rw of_net at had.few in
+            let size = have.size in omega (arith, few, size, counted);
         later = later;
         comes = comes;
         only = only;

@@ -5,6 +5,7 @@ pub mod RunSoFar
 pub mod Stops
 pub mod Ready
 pub mod EndSlots
+pub mod NetEnds
 pub mod NetSlots
 pub mod JoinedPart
 pub mod NetLists

@@ -12,6 +12,7 @@ ghost use Rattle.leg_route_grid.specs.Steps.Grid.{slot_total};
 ghost use Rattle.leg_rules.specs.Legal.{IsCleanIn};
 ghost use Rattle.leg_route.specs.Refusal.{IsRouteRefusal};
 ghost use Rattle.leg_rules.specs.Route.Refusal.{ComesToRun};
+ghost use Rattle.leg_route.specs.Steps.NetEnds.{ends_in};
 ghost use Rattle.leg_route.specs.Steps.Ready.{IsReadyGround};
 
 use crate::fault::RouteFault;
@@ -61,7 +62,7 @@ impl<'g, 'a, A: Allocator + Copy> GridGround<'g, 'a, A> {
               boxes = ground.part.slots.boxes.items;
               slots = ground.part.slots.slots.items;
               hulls = ground.part.hulls.items;
-              ends = ground.part.ends.items;
+              ends = ends_in ground.part.ends;
             }) ground.joins) }
         ensures same_design { IfOk result (λ ground. ground.design.now ≡ design.now) }
         ensures comes { IfOk result (λ ground. ComesToRun design.now ground.flat) }
@@ -88,6 +89,7 @@ impl<'g, 'a, A: Allocator + Copy> GridGround<'g, 'a, A> {
 }
 
 impl<'g, 'a, A: Allocator + Copy> Ground<A> for GridGround<'g, 'a, A> {
+    ghost use Rattle.leg_route.specs.Steps.NetEnds.{ends_in};
     ghost use Rattle.leg_route.specs.Steps.Ready.{IsReadyGround};
 
     ghost design = { λ g. g.design.now };
@@ -101,7 +103,7 @@ impl<'g, 'a, A: Allocator + Copy> Ground<A> for GridGround<'g, 'a, A> {
           boxes = g.part.slots.boxes.items;
           slots = g.part.slots.slots.items;
           hulls = g.part.hulls.items;
-          ends = g.part.ends.items;
+          ends = ends_in g.part.ends;
         }) g.joins };
 
     fn next(&mut self, alloc: A, net: u32) -> Result<NextStep<A>, AllocError> {

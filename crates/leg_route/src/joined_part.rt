@@ -8,9 +8,11 @@ ghost use Rattle.leg_wire.specs.NetShapes.{AreNumbersOf};
 ghost use Rattle.leg_wire.specs.PieceMarks.{AreMarks};
 ghost use Rattle.leg_route_grid.specs.Steps.Grid.{GridModel};
 ghost use Rattle.leg_route.specs.Steps.JoinedPart.{IsJoinedPart, HaveCome, HaveMarked, HaveGotSlots, IsGrowing, MeetsMetal, MeetsPieces};
+ghost use Rattle.leg_route.specs.Steps.NetEnds.{ends_in};
 ghost use Rattle.leg_route.specs.Steps.NetSlots.{IsPartOf};
 
-use crate::end_slots::{EndSlot, are_joined_from, ends_left, ends_of};
+use crate::end_slots::{are_joined_from, ends_left, ends_of};
+use crate::net_ends::{NetEnds, net_ends, note_boxes};
 use crate::next_wires::marked_slots;
 use leg_flat::Flat;
 use leg_route_grid::{BoxedSlots, Grid, Hull, add_hulls, add_slots_in, grid_is_sound, hulls_of};
@@ -25,7 +27,7 @@ pub(crate) struct JoinedPart<A: Allocator> {
     pub(crate) joined: Vec<bool, A>,
     pub(crate) slots: BoxedSlots<A>,
     pub(crate) hulls: Vec<Hull, A>,
-    pub(crate) ends: Vec<EndSlot, A>,
+    pub(crate) ends: NetEnds<A>,
 }
 
 impl<A: Allocator + Copy> JoinedPart<A> {
@@ -36,7 +38,7 @@ impl<A: Allocator + Copy> JoinedPart<A> {
         ensures slots { result.slots.slots.items ≡ [] }
         ensures boxes { result.slots.boxes.items ≡ [] }
         ensures hulls { result.hulls.items ≡ [] }
-        ensures ends { result.ends.items ≡ [] }
+        ensures ends { ends_in result.ends ≡ record { near = []; listed = []; far = [] } }
     {
         JoinedPart {
             net,
@@ -46,7 +48,11 @@ impl<A: Allocator + Copy> JoinedPart<A> {
                 boxes: Vec::new(alloc),
             },
             hulls: Vec::new(alloc),
-            ends: Vec::new(alloc),
+            ends: NetEnds {
+                near: Vec::new(alloc),
+                listed: Vec::new(alloc),
+                far: Vec::new(alloc),
+            },
         }
     }
 
@@ -61,7 +67,7 @@ impl<A: Allocator + Copy> JoinedPart<A> {
               boxes = self.slots.boxes.items;
               slots = self.slots.slots.items;
               hulls = self.hulls.items;
-              ends = self.ends.items;
+              ends = ends_in self.ends;
             })
             → IsJoinedPart grid flat (record {
               net = result.net;
@@ -69,7 +75,7 @@ impl<A: Allocator + Copy> JoinedPart<A> {
               boxes = result.slots.boxes.items;
               slots = result.slots.slots.items;
               hulls = result.hulls.items;
-              ends = result.ends.items;
+              ends = ends_in result.ends;
             }) }
     {
         if self.net == net {
@@ -103,13 +109,13 @@ pub(crate) fn part_now<A: Allocator + Copy>(
           boxes = part.slots.boxes.items;
           slots = part.slots.slots.items;
           hulls = part.hulls.items;
-          ends = part.ends.items;
+          ends = ends_in part.ends;
         }) }
     requires come { HaveCome flat.now net part.joined.items come.now }
     ensures net { IfOk result (λ now. now.net ≡ net) }
     ensures joined { IfOk result (λ now. AreMarks (AreJoined flat.now net 0) (piece_count flat.now net) now.joined.items) }
     ensures is { IfOk result (λ now. IsPartOf grid.now flat.now net now.joined.items numbers.now
-        now.slots.boxes.items now.slots.slots.items now.hulls.items now.ends.items) }
+        now.slots.boxes.items now.slots.slots.items now.hulls.items (ends_in now.ends)) }
 {
     let had = part.joined.len();
     mark_joined(&mut part.joined, flat.pieces_of_net(net), come)?;
@@ -149,13 +155,14 @@ fn new_part<A: Allocator + Copy>(
     ensures net { IfOk result (λ now. now.net ≡ net) }
     ensures joined { IfOk result (λ now. now.joined.items ≡ joined.items) }
     ensures is { IfOk result (λ now. IsPartOf grid.now flat.now net now.joined.items numbers.now
-        now.slots.boxes.items now.slots.slots.items now.hulls.items now.ends.items) }
+        now.slots.boxes.items now.slots.slots.items now.hulls.items (ends_in now.ends)) }
 {
     grid_is_sound(grid);
     let shapes = flat.shapes();
     let slots = marked_slots(alloc, grid, shapes, numbers, &joined, true)?;
     let hulls = hulls_of(alloc, &slots.boxes)?;
     let ends = ends_of(alloc, grid, shapes, numbers, &joined, &slots.boxes, &hulls)?;
+    let ends = net_ends(alloc, grid, ends)?;
     Ok(JoinedPart {
         net,
         joined,
@@ -182,12 +189,12 @@ fn grown_part<A: Allocator + Copy>(
           boxes = part.slots.boxes.items;
           slots = part.slots.slots.items;
           hulls = part.hulls.items;
-          ends = part.ends.items;
+          ends = ends_in part.ends;
         }) }
     ensures net { IfOk result (λ now. now.net ≡ part.net) }
     ensures joined { IfOk result (λ now. now.joined.items ≡ part.joined.items) }
     ensures is { IfOk result (λ now. IsPartOf grid.now flat.now part.net now.joined.items numbers.now
-        now.slots.boxes.items now.slots.slots.items now.hulls.items now.ends.items) }
+        now.slots.boxes.items now.slots.slots.items now.hulls.items (ends_in now.ends)) }
 {
     grid_is_sound(grid);
     let JoinedPart {
@@ -195,14 +202,15 @@ fn grown_part<A: Allocator + Copy>(
         joined,
         mut slots,
         mut hulls,
-        ends,
+        mut ends,
     } = part;
     let first = slots.boxes.len();
     add_pieces(grid, joins, come, &mut slots)?;
     add_hulls(&slots.boxes, &mut hulls)?;
     let come = &slots.boxes[first..];
     let come_hulls = hulls_of(alloc, come)?;
-    let ends = ends_left(alloc, grid, &ends, &joined, come, &come_hulls)?;
+    ends.near = ends_left(alloc, grid, &ends.near, &joined, come, &come_hulls)?;
+    note_boxes(&mut ends.far, come, &come_hulls);
     Ok(JoinedPart {
         net,
         joined,

@@ -8,17 +8,18 @@ ghost use Rattle.leg_wire.specs.PieceMarks.{AreMarks};
 ghost use Rattle.leg_rules.specs.Joins.Touch.{piece_count, AreJoined};
 ghost use Rattle.leg_route_grid.specs.Steps.Grid.{IsNumberOf, slot_total};
 ghost use Rattle.leg_route_grid.specs.Steps.WalkBounds.{AreBoxed};
-ghost use Rattle.leg_route_grid.specs.Steps.Hulls.{AreHulls};
-ghost use Rattle.leg_rules.specs.Route.Meets.{MeetsJoined, MeetsRest};
+ghost use Rattle.leg_rules.specs.Route.Meets.{MeetsRest};
 ghost use Rattle.leg_route_grid.specs.Steps.NodeNumbers.{IsOneOf};
 ghost use Rattle.leg_route_grid.specs.Steps.AccessTable.{IsAccessTable};
-ghost use Rattle.leg_route.specs.Steps.NetSlots.{HasMark, AreMarkedSlots, IsPartOf, IsNextAnswerAt, IsNearAnswerAt};
+ghost use Rattle.leg_route.specs.Steps.NetSlots.{HasMark, AreMarkedSlots, IsPartOf, IsSearchFrom, IsNextAnswerAt, IsNearestAt, IsNearAnswerAt};
 ghost use Rattle.leg_route.specs.declared.end_slots.EndSlot.{EndSlot};
 ghost use Rattle.leg_route.specs.Steps.EndSlots.{IsFarSlot, AreSameEnds};
+ghost use Rattle.leg_route.specs.Steps.NetEnds.{ends_in};
 ghost use Rattle.leg_route.specs.Steps.NextWires.{IsNextAnswer};
 
 use crate::end_slots::{EndSlot, note_steps, slots_of_ends, steps_to_ends};
 use crate::joined_part::JoinedPart;
+use crate::net_ends::{bring_near, first_reach, least_far};
 use leg_design_records::{Design, Wire};
 use leg_flat::{Flat, Shape};
 use leg_route_grid::laws::{
@@ -68,9 +69,9 @@ pub(crate) fn marked_slots<A: Allocator + Copy>(
     Ok(found)
 }
 
-/// The numbers of the slots of a shortest open walk of the net, whose walks begin in these slots and end in those of the ends, where
-/// a search nearby finds one. Where it finds none, `left_out` is whether there may be one, and `limit` is where a search that goes on
-/// begins. What the search finds out of each of the ends is noted. `slots` has what is open in the flat.
+/// The numbers of the slots of a shortest open walk of the net from these slots to one of the ends, where a search nearby finds one.
+/// Where it finds none, `left_out` is whether there may be one, and `limit` is how many steps it then has at least. What the search
+/// finds out of each of the ends is noted. `slots` has what is open in the flat.
 fn walk_nearby<A: Allocator + Copy>(
     alloc: A,
     grid: &Grid<'_, '_, A>,
@@ -85,18 +86,14 @@ fn walk_nearby<A: Allocator + Copy>(
     touched: &mut Vec<u32, A>,
     left_out: &mut bool,
 ) -> Result<Option<Vec<u32, A>>, AllocError>
-    requires told { IsAccessTable grid.now flat.now slots.now }
-    requires starts { (n : ℕ) → Contains starts.now.slots.items n ↔ IsOneOf (IsNumberOf grid.now) (MeetsJoined flat.now net) n }
-    requires ends { (n : ℕ) → Contains (map (λ (end : EndSlot). end.slot) ends.old) n ↔ IsOneOf (IsNumberOf grid.now) (MeetsRest flat.now net) n }
-    requires starts_within { All (λ n. n < slot_total grid.now) starts.now.slots.items }
+    requires given { IsSearchFrom grid.now flat.now slots.now net starts.now.slots.items starts.now.boxes.items hulls.now }
     requires ends_within { All (λ (end : EndSlot). end.slot < slot_total grid.now) ends.old }
     requires far { All (λ (end : EndSlot). IsFarSlot grid.now flat.now net starts.now.boxes.items end.least end.slot) ends.old }
-    requires starts_boxed { AreBoxed grid.now starts.now.boxes.items starts.now.slots.items }
-    requires hulls { AreHulls starts.now.boxes.items hulls.now }
     requires count { length marks.old ≡ slot_total grid.now }
     requires unseen { AreUnseen marks.old }
     requires untouched { touched.old.items ≡ [] }
-    ensures answer { IfOk result (λ walk. IsNearAnswerAt grid.now flat.now net left_out.new (option_map (λ numbers. numbers.items) walk)) }
+    ensures answer { IfOk result (λ walk. IsNearestAt grid.now flat.now net (map (λ (end : EndSlot). end.slot) ends.old) left_out.new
+        (option_map (λ numbers. numbers.items) walk)) }
     ensures within { IfOk result (λ walk. IfSome walk (λ numbers. All (λ n. n < slot_total grid.now) numbers.items)) }
     ensures same { AreSameEnds ends.old ends.new }
     ensures far { All (λ (end : EndSlot). IsFarSlot grid.now flat.now net starts.now.boxes.items end.least end.slot) ends.new }
@@ -146,14 +143,10 @@ fn walk_further<A: Allocator + Copy>(
     marks: &mut [Mark],
     touched: &mut Vec<u32, A>,
 ) -> Result<Option<Vec<u32, A>>, AllocError>
-    requires told { IsAccessTable grid.now flat.now slots.now }
-    requires starts { (n : ℕ) → Contains starts.now.slots.items n ↔ IsOneOf (IsNumberOf grid.now) (MeetsJoined flat.now net) n }
+    requires given { IsSearchFrom grid.now flat.now slots.now net starts.now.slots.items starts.now.boxes.items hulls.now }
     requires ends { (n : ℕ) → Contains ends.now.slots.items n ↔ IsOneOf (IsNumberOf grid.now) (MeetsRest flat.now net) n }
-    requires starts_within { All (λ n. n < slot_total grid.now) starts.now.slots.items }
     requires ends_within { All (λ n. n < slot_total grid.now) ends.now.slots.items }
-    requires starts_boxed { AreBoxed grid.now starts.now.boxes.items starts.now.slots.items }
     requires ends_boxed { AreBoxed grid.now ends.now.boxes.items ends.now.slots.items }
-    requires hulls { AreHulls starts.now.boxes.items hulls.now }
     requires count { length marks.old ≡ slot_total grid.now }
     requires unseen { AreUnseen marks.old }
     requires untouched { touched.old.items ≡ [] }
@@ -186,6 +179,132 @@ fn walk_further<A: Allocator + Copy>(
     Ok(walk)
 }
 
+/// Looks nearby for a shortest walk from the joined part of the net to the rest, among those ends to which no more than `reach` steps are
+/// left, and others that were near before. Where it finds none, or one that may not be a shortest, `left_out` is whether there may be
+/// a walk, `reach` is how far it is to be looked for then, and `limit` is how many steps a walk to one of these ends has at least.
+fn walk_within<A: Allocator + Copy>(
+    alloc: A,
+    grid: &Grid<'_, '_, A>,
+    flat: &Flat<A>,
+    slots: &[SlotAccess],
+    net: u32,
+    numbers: &[u32],
+    part: &mut JoinedPart<A>,
+    reach: &mut u32,
+    limit: &mut u64,
+    marks: &mut [Mark],
+    touched: &mut Vec<u32, A>,
+    left_out: &mut bool,
+) -> Result<Option<Vec<u32, A>>, AllocError>
+    requires told { IsAccessTable grid.now flat.now slots.now }
+    requires numbers { AreNumbersOf flat.now.shapes net numbers.now }
+    requires joined { AreMarks (AreJoined flat.now net 0) (piece_count flat.now net) part.old.joined.items }
+    requires part { IsPartOf grid.now flat.now net part.old.joined.items numbers.now
+        part.old.slots.boxes.items part.old.slots.slots.items part.old.hulls.items (ends_in part.old.ends) }
+    requires count { length marks.old ≡ slot_total grid.now }
+    requires unseen { AreUnseen marks.old }
+    requires untouched { touched.old.items ≡ [] }
+    ensures answer { IfOk result (λ walk. IsNearAnswerAt grid.now flat.now net left_out.new (option_map (λ numbers. numbers.items) walk)) }
+    ensures within { IfOk result (λ walk. IfSome walk (λ numbers. All (λ n. n < slot_total grid.now) numbers.items)) }
+    ensures part { OnOk result (IsPartOf grid.now flat.now net part.new.joined.items numbers.now
+        part.new.slots.boxes.items part.new.slots.slots.items part.new.hulls.items (ends_in part.new.ends)) }
+    ensures same_net { part.new.net ≡ part.old.net }
+    ensures same_joined { part.new.joined.items ≡ part.old.joined.items }
+    ensures count { length marks.new ≡ slot_total grid.now }
+    ensures unseen { AreUnseen marks.new }
+    ensures untouched { touched.new.items ≡ [] }
+{
+    grid_is_sound(grid);
+    bring_near(
+        alloc,
+        grid,
+        &part.joined,
+        &part.slots.boxes,
+        &part.hulls,
+        *reach,
+        &mut part.ends,
+    )?;
+    let walk = walk_nearby(
+        alloc,
+        grid,
+        flat,
+        slots,
+        net,
+        &part.slots,
+        &part.hulls,
+        &mut part.ends.near,
+        limit,
+        marks,
+        touched,
+        left_out,
+    )?;
+    if part.ends.far.is_empty() {
+        return Ok(walk);
+    }
+    let least = least_far(&part.ends.far);
+    if let Some(nodes) = walk {
+        if nodes.len() <= least as usize {
+            return Ok(Some(nodes));
+        }
+        *reach = nodes.len().min(u32::MAX as usize) as u32;
+    } else {
+        *reach = reach.saturating_mul(2).max(least);
+    }
+    *left_out = true;
+    Ok(None)
+}
+
+/// So many times a walk is looked for nearby at most. Each time it is looked for twice as far at least, or as far as a walk is long
+/// that was found, so no end is too far for the last one.
+const ROUNDS: u32 = 40;
+
+/// Looks nearby for a shortest walk from the joined part of the net to the rest, farther and farther. Where it finds none, `left_out`
+/// is whether there may be one, and `limit` is where a search that goes on begins.
+fn walk_near<A: Allocator + Copy>(
+    alloc: A,
+    grid: &Grid<'_, '_, A>,
+    flat: &Flat<A>,
+    slots: &[SlotAccess],
+    net: u32,
+    numbers: &[u32],
+    part: &mut JoinedPart<A>,
+    limit: &mut u64,
+    marks: &mut [Mark],
+    touched: &mut Vec<u32, A>,
+    left_out: &mut bool,
+) -> Result<Option<Vec<u32, A>>, AllocError>
+    requires told { IsAccessTable grid.now flat.now slots.now }
+    requires numbers { AreNumbersOf flat.now.shapes net numbers.now }
+    requires joined { AreMarks (AreJoined flat.now net 0) (piece_count flat.now net) part.old.joined.items }
+    requires part { IsPartOf grid.now flat.now net part.old.joined.items numbers.now
+        part.old.slots.boxes.items part.old.slots.slots.items part.old.hulls.items (ends_in part.old.ends) }
+    requires count { length marks.old ≡ slot_total grid.now }
+    requires unseen { AreUnseen marks.old }
+    requires untouched { touched.old.items ≡ [] }
+    ensures answer { IfOk result (λ walk. IsNearAnswerAt grid.now flat.now net left_out.new (option_map (λ numbers. numbers.items) walk)) }
+    ensures within { IfOk result (λ walk. IfSome walk (λ numbers. All (λ n. n < slot_total grid.now) numbers.items)) }
+    ensures part { OnOk result (IsPartOf grid.now flat.now net part.new.joined.items numbers.now
+        part.new.slots.boxes.items part.new.slots.slots.items part.new.hulls.items (ends_in part.new.ends)) }
+    ensures same_net { part.new.net ≡ part.old.net }
+    ensures same_joined { part.new.joined.items ≡ part.old.joined.items }
+    ensures count { length marks.new ≡ slot_total grid.now }
+    ensures unseen { AreUnseen marks.new }
+    ensures untouched { touched.new.items ≡ [] }
+{
+    let mut reach = first_reach(&part.ends);
+    'rounds: for _ in 0..ROUNDS {
+        let walk = walk_within(
+            alloc, grid, flat, slots, net, numbers, part, &mut reach, limit, marks, touched,
+            left_out,
+        )?;
+        if !*left_out || part.ends.far.is_empty() {
+            return Ok(walk);
+        }
+    }
+    *left_out = true;
+    Ok(None)
+}
+
 /// The numbers of the slots of a shortest open walk from the joined part of the net to the rest, or `None` where there is no such
 /// walk. The slots of the rest are looked for again where a search nearby finds no walk.
 fn next_walk<A: Allocator + Copy>(
@@ -203,14 +322,14 @@ fn next_walk<A: Allocator + Copy>(
     requires numbers { AreNumbersOf flat.now.shapes net numbers.now }
     requires joined { AreMarks (AreJoined flat.now net 0) (piece_count flat.now net) part.old.joined.items }
     requires part { IsPartOf grid.now flat.now net part.old.joined.items numbers.now
-        part.old.slots.boxes.items part.old.slots.slots.items part.old.hulls.items part.old.ends.items }
+        part.old.slots.boxes.items part.old.slots.slots.items part.old.hulls.items (ends_in part.old.ends) }
     requires count { length marks.old ≡ slot_total grid.now }
     requires unseen { AreUnseen marks.old }
     requires untouched { touched.old.items ≡ [] }
     ensures answer { IfOk result (λ walk. IsNextAnswerAt grid.now flat.now net (option_map (λ numbers. numbers.items) walk)) }
     ensures within { IfOk result (λ walk. IfSome walk (λ numbers. All (λ n. n < slot_total grid.now) numbers.items)) }
     ensures part { OnOk result (IsPartOf grid.now flat.now net part.new.joined.items numbers.now
-        part.new.slots.boxes.items part.new.slots.slots.items part.new.hulls.items part.new.ends.items) }
+        part.new.slots.boxes.items part.new.slots.slots.items part.new.hulls.items (ends_in part.new.ends)) }
     ensures same_net { part.new.net ≡ part.old.net }
     ensures same_joined { part.new.joined.items ≡ part.old.joined.items }
     ensures unseen { AreUnseen marks.new }
@@ -218,15 +337,14 @@ fn next_walk<A: Allocator + Copy>(
 {
     let mut limit = 0;
     let mut left_out = false;
-    let near = walk_nearby(
+    let near = walk_near(
         alloc,
         grid,
         flat,
         slots,
         net,
-        &part.slots,
-        &part.hulls,
-        &mut part.ends,
+        numbers,
+        part,
         &mut limit,
         marks,
         touched,
@@ -280,13 +398,13 @@ pub(crate) fn next_wires<A: Allocator + Copy>(
     requires numbers { AreNumbersOf flat.now.shapes net numbers.now }
     requires joined { AreMarks (AreJoined flat.now net 0) (piece_count flat.now net) part.old.joined.items }
     requires part { IsPartOf grid.now flat.now net part.old.joined.items numbers.now
-        part.old.slots.boxes.items part.old.slots.slots.items part.old.hulls.items part.old.ends.items }
+        part.old.slots.boxes.items part.old.slots.slots.items part.old.hulls.items (ends_in part.old.ends) }
     requires count { length marks.old ≡ slot_total grid.now }
     requires unseen { AreUnseen marks.old }
     requires untouched { touched.old.items ≡ [] }
     ensures answer { IfOk result (λ answer. IsNextAnswer design.now flat.now net (option_map (λ wires. wires.items) answer)) }
     ensures part { OnOk result (IsPartOf grid.now flat.now net part.new.joined.items numbers.now
-        part.new.slots.boxes.items part.new.slots.slots.items part.new.hulls.items part.new.ends.items) }
+        part.new.slots.boxes.items part.new.slots.slots.items part.new.hulls.items (ends_in part.new.ends)) }
     ensures same_net { part.new.net ≡ part.old.net }
     ensures same_joined { part.new.joined.items ≡ part.old.joined.items }
     ensures count { length marks.new ≡ length marks.old }

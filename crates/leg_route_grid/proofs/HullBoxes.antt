@@ -98,6 +98,19 @@ module _ (boxes : List SlotBox) (s : Slot) (most least : ℕ) where
       least_more least most _ _ (so_far ∙ ap (λ n. min most (nearest (drop n boxes) s)) next) (far i (omega (arith, room)) (omega (arith, room)))
       ∙ sym (ap (min most) (from_here i (omega (arith, room, within))))
 
+as_least : (a b : ℕ) → a ≤ b → a ≡ min a b
+as_least a b upto = grind (arith, upto)
+
+from_least : (a b : ℕ) → a ≡ min a b → a ≤ b
+from_least a b is = grind (arith, is)
+
+-- what is no more than is left to some boxes is no more than to those before them either, where none of these is nearer
+pub upto_past : (boxes : List SlotBox) (s : Slot) (least before count : ℕ) → count ≤ before → before ≤ length boxes
+    → ((j : ℕ) → before ≤ j + count → j < before → least ≤ slot_bound (get_or boxes j nowhere) s)
+    → least ≤ nearest (drop before boxes) s → least ≤ nearest (drop (before - count) boxes) s
+upto_past boxes s least before count room within far upto =
+    from_least least _ (nearest_past boxes s least least before count room within far (as_least least _ upto))
+
 -- the nearest of all boxes is no farther than that of some
 pub nearest_drop : (boxes : List SlotBox) (s : Slot) (i : ℕ) → nearest boxes s ≤ nearest (drop i boxes) s
 nearest_drop boxes s zero = omega arith

@@ -59,7 +59,7 @@ pub use net_graph::NetGraph;
 pub use patch::square;
 pub use slot::Slot;
 pub use slot_access::SlotAccess;
-pub use slot_box::{BoxedSlots, SlotBox, bound};
+pub use slot_box::{BoxedSlots, SlotBox, bound, bound_of_box};
 pub use slot_nodes::nodes_of;
 pub use slots_in::{add_slots_in, places_within};
 pub use spelling::wires_of;

@@ -1,8 +1,9 @@
 //! How many steps are left at least to some boxes of slots.
 
-ghost use Rattle.std.specs.Prelude.{◌≡◌, ◌<◌, ◌^◌, min, length, All};
+ghost use Rattle.std.specs.Prelude.{◌≡◌, ◌<◌, ◌≤◌, ◌^◌, ℕ, min, length, All};
 ghost use Rattle.leg_route_grid.specs.Steps.Grid.{GridModel, slot_total};
-ghost use Rattle.leg_route_grid.specs.Steps.WalkBounds.{gap, slot_bound, bound_at, IsBoxOf, AreBoxed};
+ghost use Rattle.leg_route_grid.specs.declared.slot.Slot.{Slot};
+ghost use Rattle.leg_route_grid.specs.Steps.WalkBounds.{gap, slot_bound, nearest, bound_at, IsBoxOf, IsInBox, AreBoxed};
 ghost use Rattle.leg_route_grid.specs.Steps.Hulls.{AreHulls};
 
 use crate::grid::Grid;
@@ -85,6 +86,56 @@ pub fn bound<A: Allocator + Copy>(
         } else {
             before -= 1;
             least = least.min(outside(&boxes[before], slot));
+        }
+    }
+    least as u32
+}
+
+/// How far the second stretch lies from the first.
+fn gap_between(low: usize, high: usize, first: usize, last: usize) -> usize
+    ensures { (place : ℕ) → first ≤ place → place ≤ last → result ≤ gap low high place }
+{
+    low.saturating_sub(last)
+        .saturating_add(first.saturating_sub(high))
+}
+
+/// By how many layers, rows and columns the second box lies from the first.
+fn apart(ends: &SlotBox, other: &SlotBox) -> usize
+    ensures { (s : Slot) → IsInBox other.now s → result ≤ slot_bound ends.now s }
+{
+    let layers = gap_between(
+        ends.low.layer,
+        ends.high.layer,
+        other.low.layer,
+        other.high.layer,
+    );
+    let rows = gap_between(ends.low.row, ends.high.row, other.low.row, other.high.row);
+    let columns = gap_between(
+        ends.low.column,
+        ends.high.column,
+        other.low.column,
+        other.high.column,
+    );
+    layers.saturating_add(rows).saturating_add(columns)
+}
+
+/// How many steps are left at least from each slot of a box to the slots of the boxes, whose hulls these are: by how many layers, rows
+/// and columns the box lies from the nearest; or `most` where those are more. Boxes whose hull is no nearer than one that was found
+/// are passed over.
+pub fn bound_of_box(boxes: &[SlotBox], hulls: &[Hull], ends: &SlotBox, most: u32) -> u32
+    requires hulls { AreHulls boxes.now hulls.now }
+    ensures most { result ≤ most }
+    ensures least { (s : Slot) → IsInBox ends.now s → result ≤ nearest boxes.now s }
+{
+    let mut least = (most as usize).min(GREATEST_GRID as usize);
+    let mut before = boxes.len();
+    'boxes: while before > 0 && least > 0 {
+        let hull = &hulls[before - 1];
+        if apart(&hull.ends, ends) >= least {
+            before -= hull.count;
+        } else {
+            before -= 1;
+            least = least.min(apart(&boxes[before], ends));
         }
     }
     least as u32

@@ -11,9 +11,9 @@ use Rattle.leg_route_grid.specs.Steps.Hulls.{AreHulls}
 use Rattle.leg_route_grid.specs.Steps.WalkBounds.{AreBoxed}
 use Rattle.leg_route_grid.specs.Steps.Grid.{GridModel, IsNumberOf, slot_total}
 use Rattle.leg_route_grid.specs.Steps.NodeNumbers.{IsOneOf}
-use Rattle.leg_route.specs.declared.end_slots.EndSlot.{EndSlot}
 use Rattle.leg_route_grid.specs.Steps.NodesInRect.{LiesInRect}
-use Rattle.leg_route.specs.Steps.EndSlots.{IsApart, IsFarSlot, AreEndSlots}
+use Rattle.leg_route.specs.Steps.EndSlots.{IsFarSlot}
+use Rattle.leg_route.specs.Steps.NetEnds.{EndsModel, AreNetEnds}
 use Rattle.leg_route.specs.Steps.NetSlots.{MeetsMarked, IsPartOf}
 
 -- marks for the first pieces of a net, slots with the boxes in which they lie and the hulls of these, and ends
@@ -23,7 +23,7 @@ pub record PartModel : Type 0 where
   pub boxes : List SlotBox
   pub slots : List ℕ
   pub hulls : List Hull
-  pub ends : List EndSlot
+  pub ends : EndsModel
 
 -- the node meets a piece of the net that is marked
 pub record MeetsPart (flat : FlatModel) (net : ℕ) (joined : List Bool) (node : Node) : Type 0 where
@@ -46,7 +46,7 @@ pub record IsJoinedPart (grid : GridModel) (flat : FlatModel) (part : PartModel)
   pub within : All (λ n. n < slot_total grid) part.slots
   pub boxed : AreBoxed grid part.boxes part.slots
   pub hulled : AreHulls part.boxes part.hulls
-  pub ends_are : AreEndSlots grid (IsApart part.joined) (LiesInPiece flat part.net) (IsFarSlot grid flat part.net part.boxes) part.ends
+  pub ends_are : AreNetEnds grid part.joined (LiesInPiece flat part.net) (IsFarSlot grid flat part.net part.boxes) part.ends
 
 -- the pieces that were given are marked in the part, which is of that net
 abbrev pub AreGivenTo : PartModel → JoinsModel → Type 0
@@ -89,6 +89,7 @@ pub record IsGrowing (grid : GridModel) (flat : FlatModel) (numbers : List ℕ) 
   pub before : List Bool
   pub had : IsPartOf grid flat part.net before numbers part.boxes part.slots part.hulls part.ends
   pub still : (k : ℕ) → slice_get before k ≡ Some true → slice_get part.joined k ≡ Some true
+  pub long : length before ≤ length part.joined
   pub later : (k : ℕ) → length before ≤ k → k < length part.joined → get_or part.joined k true ≡ true
   pub comes : (node : Node) → MeetsMarked flat.shapes part.joined true numbers node
       → MeetsMarked flat.shapes before true numbers node ⊎ MeetsPieces metal come node

@@ -8,10 +8,15 @@ use Rattle.leg_route_grid.specs.declared.hulls.Hull.{Hull}
 use Rattle.leg_route_grid.specs.Steps.Hulls.{AreHulls}
 use Rattle.leg_route_grid.specs.Steps.WalkBounds.{AreBoxed}
 use Rattle.leg_route_grid.specs.Steps.Grid.{GridModel, IsNumberOf, slot_total}
-use Rattle.leg_route_grid.specs.Steps.NodeNumbers.{IsOneOf, IsNextWalkAt, HasNoWalkAt}
+use Rattle.leg_route_grid.specs.Steps.NodeNumbers.{IsOneOf, IsStepOf, IsNextWalkAt, HasNoWalkAt}
 use Rattle.leg_route_grid.specs.Steps.NodesInRect.{LiesInRect}
-use Rattle.leg_route.specs.declared.end_slots.EndSlot.{EndSlot}
-use Rattle.leg_route.specs.Steps.EndSlots.{IsApart, MeetsPiece, IsFarSlot, AreEndSlots}
+use Rattle.leg_rules.specs.Route.Meets.{MeetsJoined}
+use Rattle.leg_rules.specs.Route.OpenMetal.{IsOpenNode, IsOpenStep}
+use Rattle.leg_route_search.specs.Steps.Search.{IsRound}
+use Rattle.leg_route_grid.specs.declared.slot_access.SlotAccess.{SlotAccess}
+use Rattle.leg_route_grid.specs.Steps.AccessTable.{IsAccessTable}
+use Rattle.leg_route.specs.Steps.EndSlots.{MeetsPiece, IsFarSlot}
+use Rattle.leg_route.specs.Steps.NetEnds.{EndsModel, AreNetEnds}
 
 -- the piece is one of those that have marks, and its mark is this one
 pub record HasMark (marks : List Bool) (mark : Bool) (piece : Option ℕ) : Type 0 where
@@ -37,17 +42,32 @@ pub record AreMarkedSlots (grid : GridModel) (shapes : List Shape) (marks : List
 
 -- the slots of the joined part of a net, with the hulls of their boxes, and the slots of the rest
 pub record IsPartOf (grid : GridModel) (flat : FlatModel) (net : ℕ) (joined : List Bool) (numbers : List ℕ)
-    (boxes : List SlotBox) (slots : List ℕ) (hulls : List Hull) (ends : List EndSlot) : Type 0 where
+    (boxes : List SlotBox) (slots : List ℕ) (hulls : List Hull) (ends : EndsModel) : Type 0 where
   pub starts : AreMarkedSlots grid flat.shapes joined true numbers boxes slots
   pub hulled : AreHulls boxes hulls
-  pub ends_are : AreEndSlots grid (IsApart joined) (MeetsPiece flat.shapes numbers) (IsFarSlot grid flat net boxes) ends
+  pub ends_are : AreNetEnds grid joined (MeetsPiece flat.shapes numbers) (IsFarSlot grid flat net boxes) ends
+
+-- what a search of the net is given: what is open, and the slots in which its walks begin, with their boxes and the hulls of these
+pub record IsSearchFrom (grid : GridModel) (flat : FlatModel) (slots : List SlotAccess) (net : ℕ) (starts : List ℕ) (boxes : List SlotBox)
+    (hulls : List Hull) : Type 0 where
+  pub told : IsAccessTable grid flat slots
+  pub are : (n : ℕ) → Contains starts n ↔ IsOneOf (IsNumberOf grid) (MeetsJoined flat net) n
+  pub within : All (λ n. n < slot_total grid) starts
+  pub boxed : AreBoxed grid boxes starts
+  pub hulled : AreHulls boxes hulls
 
 -- the numbers of the slots of a shortest open walk from the net's joined part to the rest, or none where there is no such walk
 abbrev pub IsNextAnswerAt : GridModel → FlatModel → ℕ → Option (List ℕ) → Type 0
 IsNextAnswerAt grid flat net None = HasNoWalkAt grid flat net
 IsNextAnswerAt grid flat net (Some numbers) = IsNextWalkAt grid flat net numbers
 
--- the same where a walk was looked for nearby: if none was found, there is none unless something was left out
+-- what a search nearby answers whose walks end in these slots
+abbrev pub IsNearestAt : GridModel → FlatModel → ℕ → List ℕ → Bool → Option (List ℕ) → Type 0
+IsNearestAt grid flat net ends left_out answer =
+    IsRound (IsOneOf (IsNumberOf grid) (IsOpenNode grid.design flat net)) (IsStepOf (IsNumberOf grid) (IsOpenStep grid.design flat net))
+    (IsOneOf (IsNumberOf grid) (MeetsJoined flat net)) (Contains ends) left_out answer
+
+-- a walk to the rest, where one was looked for nearby: if none was found, there is none unless something was left out
 abbrev pub IsNearAnswerAt : GridModel → FlatModel → ℕ → Bool → Option (List ℕ) → Type 0
 IsNearAnswerAt grid flat net left_out None = left_out ≡ false → HasNoWalkAt grid flat net
 IsNearAnswerAt grid flat net left_out (Some numbers) = IsNextWalkAt grid flat net numbers

@@ -5,6 +5,7 @@ use Rattle.leg_rules.specs.Joins.Touch.{piece_count, AreJoined}
 use Rattle.leg_wire.specs.PieceMarks.{AreMarks}
 use Rattle.leg_route_laws.proofs.Within.{numbers_within}
 use Rattle.leg_route.specs.Steps.JoinedPart.{PartModel}
+use Rattle.leg_route.specs.Steps.NetEnds.{ends_in}
 use Rattle.leg_route.proofs.PartMarks.{told_count, come_within, marks_are, growing}
 use Rattle.leg_route.proofs.joined_part.part_now.Goals as goal
 
@@ -21,7 +22,7 @@ mark_joined-requires-clause-within g c =
     let flat = c.args.flat.now in
     let net = c.args.net in
     let part = c.args.part in
-    let model : PartModel = record { net = part.net; joined = part.joined.items; boxes = part.slots.boxes.items; slots = part.slots.slots.items; hulls = part.hulls.items; ends = part.ends.items } in
+    let model : PartModel = record { net = part.net; joined = part.joined.items; boxes = part.slots.boxes.items; slots = part.slots.slots.items; hulls = part.hulls.items; ends = ends_in part.ends } in
     come_within c.args.grid.now flat net model c.args.come.now c.requires.net c.requires.part c.requires.come c.pieces_of_net.result (told_count flat net c.pieces_of_net.result c.pieces_of_net.ensures.is)
 
 pub grown_part-requires : goal.grown_part-requires
@@ -29,7 +30,7 @@ grown_part-requires g c =
     let flat = c.args.flat.now in
     let net = c.args.net in
     let part = c.args.part in
-    let model : PartModel = record { net = part.net; joined = part.joined.items; boxes = part.slots.boxes.items; slots = part.slots.slots.items; hulls = part.hulls.items; ends = part.ends.items } in
+    let model : PartModel = record { net = part.net; joined = part.joined.items; boxes = part.slots.boxes.items; slots = part.slots.slots.items; hulls = part.hulls.items; ends = ends_in part.ends } in
     let after = c.mark_joined.new.joined.items in
     let counted = told_count flat net c.pieces_of_net.result c.pieces_of_net.ensures.is in
     let had_is : c.len-had.result ≡ length part.joined.items = omega (arith, c.len-had.ensures, part.joined.ok.0) in
@@ -48,7 +49,7 @@ returns-then-are_joined_from-clause-joined g c =
     let flat = c.args.flat.now in
     let net = c.args.net in
     let part = c.args.part in
-    let model : PartModel = record { net = part.net; joined = part.joined.items; boxes = part.slots.boxes.items; slots = part.slots.slots.items; hulls = part.hulls.items; ends = part.ends.items } in
+    let model : PartModel = record { net = part.net; joined = part.joined.items; boxes = part.slots.boxes.items; slots = part.slots.slots.items; hulls = part.hulls.items; ends = ends_in part.ends } in
     let after = c.mark_joined.new.joined.items in
     let counted = told_count flat net c.pieces_of_net.result c.pieces_of_net.ensures.is in
     IfOk-weaker c.grown_part.result (λ now. now.joined.items ≡ after) (λ now. AreMarks (AreJoined flat net 0) (piece_count flat net) now.joined.items)
@@ -61,7 +62,7 @@ returns-clause-joined g c =
     let flat = c.args.flat.now in
     let net = c.args.net in
     let part = c.args.part in
-    let model : PartModel = record { net = part.net; joined = part.joined.items; boxes = part.slots.boxes.items; slots = part.slots.slots.items; hulls = part.hulls.items; ends = part.ends.items } in
+    let model : PartModel = record { net = part.net; joined = part.joined.items; boxes = part.slots.boxes.items; slots = part.slots.slots.items; hulls = part.hulls.items; ends = ends_in part.ends } in
     let after = c.mark_joined.new.joined.items in
     let counted = told_count flat net c.pieces_of_net.result c.pieces_of_net.ensures.is in
     IfOk-weaker c.new_part.result (λ now. now.joined.items ≡ after) (λ now. AreMarks (AreJoined flat net 0) (piece_count flat net) now.joined.items)

@@ -7,6 +7,7 @@ use Rattle.leg_rules.specs.Joins.Touch.{piece_count, AreJoined}
 use Rattle.leg_rules.specs.Joins.Violations.{IsOpenNet}
 use Rattle.leg_route.specs.Steps.NetSlots.{IsPartOf}
 use Rattle.leg_route.specs.Steps.JoinedPart.{PartModel, AreGivenTo}
+use Rattle.leg_route.specs.Steps.NetEnds.{ends_in}
 use Rattle.leg_route.proofs.JoinedParts.{part_of}
 use Rattle.leg_route.proofs.KeptJoins.{given_kept}
 use Rattle.leg_route.proofs.PartMarks.{have_come, given_then, joins_given}
@@ -43,7 +44,7 @@ part_now-requires-clause-come g c =
     let net = c.args.net in
     let joins = c.in_ok-joins.joins in
     let come = c.in_ok-come.come.items in
-    let part : PartModel = record { net = ground.part.net; joined = ground.part.joined.items; boxes = ground.part.slots.boxes.items; slots = ground.part.slots.slots.items; hulls = ground.part.hulls.items; ends = ground.part.ends.items } in
+    let part : PartModel = record { net = ground.part.net; joined = ground.part.joined.items; boxes = ground.part.slots.boxes.items; slots = ground.part.slots.slots.items; hulls = ground.part.hulls.items; ends = ends_in ground.part.ends } in
     let given : AreGivenTo part joins = given_kept part ground.joins joins c.requires.ready.given_are (rw c.take-kept.ensures.value at c.in_ok-joins.ensures.given) in
     rw c.deref.ensures.value
     (have_come ground.grid flat net part joins come c.requires.ready.part_is c.in_ok-joins.ensures.net given (c.in_ok-come.ensures.joined flat c.in_ok-joins.ensures.of) c.of_net-part.result.joined.items
@@ -65,7 +66,7 @@ pub returns-then-not-is_one_apart-clause-ready : goal.returns-then-not-is_one_ap
 returns-then-not-is_one_apart-clause-ready g c =
     let ground = c.args.self.now in
     let ready = c.requires.ready in
-    let part : PartModel = record { net = ground.part.net; joined = ground.part.joined.items; boxes = ground.part.slots.boxes.items; slots = ground.part.slots.slots.items; hulls = ground.part.hulls.items; ends = ground.part.ends.items } in
+    let part : PartModel = record { net = ground.part.net; joined = ground.part.joined.items; boxes = ground.part.slots.boxes.items; slots = ground.part.slots.slots.items; hulls = ground.part.hulls.items; ends = ends_in ground.part.ends } in
     record {
       of_design = ready.of_design;
       told = ready.told;
@@ -91,7 +92,7 @@ returns-clause-ready g c =
     let boxes = part.slots.boxes.items in
     let slots = part.slots.slots.items in
     let hulls = part.hulls.items in
-    let ends = part.ends.items in
+    let ends = ends_in part.ends in
     let list : c.as_slice-own.result.now ≡ get_or lists net [] =
     c.as_slice-own.ensures ∙ get_or_read lists net c.index.result.now (omega (arith, c.requires.in_range, ready.numbers.one_each)) c.index.ensures [] in
     let numbers : AreNumbersOf flat.shapes net (get_or lists net []) = ready.numbers.each net c.requires.in_range in
@@ -101,7 +102,7 @@ returns-clause-ready g c =
     let had : IsPartOf ground.grid flat net joined (get_or lists net []) boxes slots hulls ends = rw list at c.in_ok-wires.ensures.part in
     let joins = c.in_ok-joins.joins in
     let come = c.in_ok-come.come.items in
-    let before : PartModel = record { net = ground.part.net; joined = ground.part.joined.items; boxes = ground.part.slots.boxes.items; slots = ground.part.slots.slots.items; hulls = ground.part.hulls.items; ends = ground.part.ends.items } in
+    let before : PartModel = record { net = ground.part.net; joined = ground.part.joined.items; boxes = ground.part.slots.boxes.items; slots = ground.part.slots.slots.items; hulls = ground.part.hulls.items; ends = ends_in ground.part.ends } in
     let now : PartModel = record { net = part.net; joined = joined; boxes = boxes; slots = slots; hulls = hulls; ends = ends } in
     let given : AreGivenTo before joins = given_kept before ground.joins joins ready.given_are (rw c.take-kept.ensures.value at c.in_ok-joins.ensures.given) in
     let new = c.next_wires.new.marks in
