@@ -2,7 +2,6 @@
 
 ghost use Rattle.std.specs.Prelude.{◌≡◌, ◌↔◌, ◌<◌, ◌^◌, ℕ, [], IsTrue, map, All, Contains, length, IfOk, OnOk, IfSome};
 ghost use Rattle.std.specs.Option.{option_map};
-ghost use Rattle.leg_route_search.specs.Steps.FreshMarks.{AreUnseen};
 ghost use Rattle.leg_wire.specs.NetShapes.{AreNumbersOf};
 ghost use Rattle.leg_wire.specs.PieceMarks.{AreMarks};
 ghost use Rattle.leg_rules.specs.Joins.Touch.{piece_count, AreJoined};
@@ -28,7 +27,7 @@ use leg_route_grid::{
     BoxedSlots, Grid, Hull, NetGraph, SlotAccess, add_slots_in, grid_is_sound, hulls_of, nodes_of,
     wires_of,
 };
-use leg_route_search::{Mark, far_walk, near_walk};
+use leg_route_search::{Marks, far_walk, near_walk};
 use std::alloc::{AllocError, Allocator};
 
 /// Whether the piece has this mark.
@@ -81,8 +80,7 @@ fn walk_nearby<A: Allocator + Copy>(
     hulls: &[Hull],
     ends: &mut [EndSlot],
     limit: &mut u64,
-    marks: &mut [Mark],
-    touched: &mut Vec<u32, A>,
+    marks: &mut Marks<A>,
     left_out: &mut bool,
 ) -> Result<Option<Vec<u32, A>>, AllocError>
     requires told { IsAccessTable grid.now flat.now slots.now }
@@ -94,15 +92,11 @@ fn walk_nearby<A: Allocator + Copy>(
     requires starts_boxed { AreBoxed grid.now starts.now.boxes.items starts.now.slots.items }
     requires hulls { AreHulls starts.now.boxes.items hulls.now }
     requires count { length marks.old ≡ slot_total grid.now }
-    requires unseen { AreUnseen marks.old }
-    requires untouched { touched.old.items ≡ [] }
     ensures answer { IfOk result (λ walk. IsNearAnswerAt grid.now flat.now net left_out.new (option_map (λ numbers. numbers.items) walk)) }
     ensures within { IfOk result (λ walk. IfSome walk (λ numbers. All (λ n. n < slot_total grid.now) numbers.items)) }
     ensures same { AreSameEnds ends.old ends.new }
     ensures far { All (λ (end : EndSlot). IsFarSlot grid.now flat.now net starts.now.boxes.items end.least end.slot) ends.new }
-    ensures count { length marks.new ≡ slot_total grid.now }
-    ensures unseen { AreUnseen marks.new }
-    ensures untouched { touched.new.items ≡ [] }
+    ensures count { length marks.new ≡ length marks.old }
 {
     grid_is_sound(grid);
     *left_out = false;
@@ -124,9 +118,7 @@ fn walk_nearby<A: Allocator + Copy>(
     searches_walk_as_numbers();
     let last = slots_of_ends(alloc, ends)?;
     let mut known = steps_to_ends(alloc, ends)?;
-    let walk = near_walk(
-        alloc, &graph, &last, &mut known, limit, marks, touched, left_out,
-    )?;
+    let walk = near_walk(alloc, &graph, &last, &mut known, limit, marks, left_out)?;
     note_steps(ends, &known);
     Ok(walk)
 }
@@ -143,8 +135,7 @@ fn walk_further<A: Allocator + Copy>(
     hulls: &[Hull],
     ends: &BoxedSlots<A>,
     limit: u64,
-    marks: &mut [Mark],
-    touched: &mut Vec<u32, A>,
+    marks: &mut Marks<A>,
 ) -> Result<Option<Vec<u32, A>>, AllocError>
     requires told { IsAccessTable grid.now flat.now slots.now }
     requires starts { (n : ℕ) → Contains starts.now.slots.items n ↔ IsOneOf (IsNumberOf grid.now) (MeetsJoined flat.now net) n }
@@ -155,12 +146,9 @@ fn walk_further<A: Allocator + Copy>(
     requires ends_boxed { AreBoxed grid.now ends.now.boxes.items ends.now.slots.items }
     requires hulls { AreHulls starts.now.boxes.items hulls.now }
     requires count { length marks.old ≡ slot_total grid.now }
-    requires unseen { AreUnseen marks.old }
-    requires untouched { touched.old.items ≡ [] }
     ensures answer { IfOk result (λ walk. IsNextAnswerAt grid.now flat.now net (option_map (λ numbers. numbers.items) walk)) }
     ensures within { IfOk result (λ walk. IfSome walk (λ numbers. All (λ n. n < slot_total grid.now) numbers.items)) }
-    ensures unseen { AreUnseen marks.new }
-    ensures untouched { touched.new.items ≡ [] }
+    ensures count { length marks.new ≡ length marks.old }
 {
     grid_is_sound(grid);
     let end_hulls = hulls_of(alloc, &ends.boxes)?;
@@ -174,15 +162,7 @@ fn walk_further<A: Allocator + Copy>(
         end_hulls: end_hulls.as_slice(),
     };
     searches_walk_as_numbers();
-    let walk = far_walk(
-        alloc,
-        &graph,
-        &starts.slots,
-        &ends.slots,
-        limit,
-        marks,
-        touched,
-    )?;
+    let walk = far_walk(alloc, &graph, &starts.slots, &ends.slots, limit, marks)?;
     Ok(walk)
 }
 
@@ -196,8 +176,7 @@ fn next_walk<A: Allocator + Copy>(
     net: u32,
     numbers: &[u32],
     part: &mut JoinedPart<A>,
-    marks: &mut [Mark],
-    touched: &mut Vec<u32, A>,
+    marks: &mut Marks<A>,
 ) -> Result<Option<Vec<u32, A>>, AllocError>
     requires told { IsAccessTable grid.now flat.now slots.now }
     requires numbers { AreNumbersOf flat.now.shapes net numbers.now }
@@ -205,16 +184,13 @@ fn next_walk<A: Allocator + Copy>(
     requires part { IsPartOf grid.now flat.now net part.old.joined.items numbers.now
         part.old.slots.boxes.items part.old.slots.slots.items part.old.hulls.items part.old.ends.items }
     requires count { length marks.old ≡ slot_total grid.now }
-    requires unseen { AreUnseen marks.old }
-    requires untouched { touched.old.items ≡ [] }
     ensures answer { IfOk result (λ walk. IsNextAnswerAt grid.now flat.now net (option_map (λ numbers. numbers.items) walk)) }
     ensures within { IfOk result (λ walk. IfSome walk (λ numbers. All (λ n. n < slot_total grid.now) numbers.items)) }
     ensures part { OnOk result (IsPartOf grid.now flat.now net part.new.joined.items numbers.now
         part.new.slots.boxes.items part.new.slots.slots.items part.new.hulls.items part.new.ends.items) }
     ensures same_net { part.new.net ≡ part.old.net }
     ensures same_joined { part.new.joined.items ≡ part.old.joined.items }
-    ensures unseen { AreUnseen marks.new }
-    ensures untouched { touched.new.items ≡ [] }
+    ensures count { length marks.new ≡ length marks.old }
 {
     let mut limit = 0;
     let mut left_out = false;
@@ -229,7 +205,6 @@ fn next_walk<A: Allocator + Copy>(
         &mut part.ends,
         &mut limit,
         marks,
-        touched,
         &mut left_out,
     )?;
     if let Some(walk) = near {
@@ -251,14 +226,13 @@ fn next_walk<A: Allocator + Copy>(
         &ends,
         limit,
         marks,
-        touched,
     )?;
     Ok(walk)
 }
 
 /// The wires of a shortest open walk from the joined part of the net to the rest, or `None` where there is no such walk. `slots`
 /// has for each slot of the grid what is open in the flat, `numbers` are those of the net's shapes, and `part` is what is kept of its
-/// joined pieces and of the others, for which is noted what is found out of them. `marks` has one for each slot. `touched` is room to work in. Of several such walks one is taken as
+/// joined pieces and of the others, for which is noted what is found out of them. `marks` has one for each slot. Of several such walks one is taken as
 /// `shortest` of `leg_route_search` states.
 ///
 /// It fails only when out of memory.
@@ -271,8 +245,7 @@ pub(crate) fn next_wires<A: Allocator + Copy>(
     net: u32,
     numbers: &[u32],
     part: &mut JoinedPart<A>,
-    marks: &mut [Mark],
-    touched: &mut Vec<u32, A>,
+    marks: &mut Marks<A>,
 ) -> Result<Option<Vec<Wire, A>>, AllocError>
     requires of_design { grid.now.design ≡ design.now }
     requires told { IsAccessTable grid.now flat.now slots.now }
@@ -282,18 +255,14 @@ pub(crate) fn next_wires<A: Allocator + Copy>(
     requires part { IsPartOf grid.now flat.now net part.old.joined.items numbers.now
         part.old.slots.boxes.items part.old.slots.slots.items part.old.hulls.items part.old.ends.items }
     requires count { length marks.old ≡ slot_total grid.now }
-    requires unseen { AreUnseen marks.old }
-    requires untouched { touched.old.items ≡ [] }
     ensures answer { IfOk result (λ answer. IsNextAnswer design.now flat.now net (option_map (λ wires. wires.items) answer)) }
     ensures part { OnOk result (IsPartOf grid.now flat.now net part.new.joined.items numbers.now
         part.new.slots.boxes.items part.new.slots.slots.items part.new.hulls.items part.new.ends.items) }
     ensures same_net { part.new.net ≡ part.old.net }
     ensures same_joined { part.new.joined.items ≡ part.old.joined.items }
     ensures count { length marks.new ≡ length marks.old }
-    ensures unseen { AreUnseen marks.new }
-    ensures untouched { touched.new.items ≡ [] }
 {
-    let found = next_walk(alloc, grid, flat, slots, net, numbers, part, marks, touched)?;
+    let found = next_walk(alloc, grid, flat, slots, net, numbers, part, marks)?;
     grid_is_sound(grid);
     nodes_have_numbers();
     numbers_walk_as_nodes();
