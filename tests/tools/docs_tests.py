@@ -165,7 +165,7 @@ class PartTests(DoctoredTests):
         self.assertEqual(said(docs.check_steps, self.copy), set())
         with mock.patch.object(docs, 'ONE_ALGORITHM', ()):
             self.assert_said(said(docs.check_steps, self.copy), 'a clause of leg_route_search::shortest cites')
-        self.copy.write('crates/leg_route_search/specs/Beside.antt', 'use Rattle.leg_route_search.specs.Steps.Walks.{IsAnswer}\n')
+        self.copy.write('crates/leg_route_search/specs/Beside.antt', 'use Rattle.leg_route_search.specs.Steps.Search.{IsFound}\n')
         self.assertEqual(said(docs.check_steps, self.copy), {'crates/leg_route_search/specs/Beside.antt cites specs/Steps'})
 
 

@@ -4,7 +4,8 @@ use Rattle.std.specs.List.{AllZip}
 use Rattle.std.proofs.lemmas.Bool.{true≢false, false≢true}
 use Rattle.leg_lemmas.proofs.Contained.{Contains-nil}
 use Rattle.leg_rules.specs.Metal.Flat.{FlatModel}
-use Rattle.leg_route_search.specs.Steps.Walks.{IsStep, IsShortestIfAny}
+use Rattle.leg_route_search.specs.Steps.SideSteps.{IsStep}
+use Rattle.leg_route_search.specs.Steps.Search.{IsShortestIfAny}
 use Rattle.leg_rules.specs.Route.Walk.{IsShortest, NoWalk}
 use Rattle.leg_rules.specs.declared.node.Node.{Node}
 use Rattle.leg_route_grid.specs.declared.slot_access.SlotAccess.{SlotAccess}

@@ -1,7 +1,6 @@
 //! The first piece that cannot be reached.
 
-ghost use Rattle.std.specs.Prelude.{◌≡◌, ◌↔◌, ◌<◌, [], IsTrue, Some, slice_get, All, length, IfOk};
-ghost use Rattle.leg_route_search.specs.Steps.FreshMarks.{AreUnseen};
+ghost use Rattle.std.specs.Prelude.{◌≡◌, ◌↔◌, ◌<◌, IsTrue, Some, slice_get, All, length, IfOk};
 ghost use Rattle.leg_route_grid.specs.Steps.Grid.{slot_total};
 ghost use Rattle.leg_route_grid.specs.Steps.WalkBounds.{AreBoxed};
 ghost use Rattle.leg_route_grid.specs.Steps.AccessTable.{IsAccessTable};
@@ -17,7 +16,7 @@ use leg_route_grid::laws::{nodes_have_numbers, searches_walk_as_nodes};
 use leg_route_grid::{
     BoxedSlots, Grid, NetGraph, SlotAccess, grid_is_sound, hulls_of, slots_beside,
 };
-use leg_route_search::{Mark, shortest, unseen_marks};
+use leg_route_search::{Marks, shortest};
 use leg_wire::laws::{joined_both_ways, joined_onward};
 use std::alloc::{AllocError, Allocator};
 
@@ -30,8 +29,7 @@ fn has_no_way<A: Allocator + Copy>(
     net: u32,
     starts: &BoxedSlots<A>,
     ends: &BoxedSlots<A>,
-    marks: &mut [Mark],
-    touched: &mut Vec<u32, A>,
+    marks: &mut Marks<A>,
 ) -> Result<bool, AllocError>
     requires told { IsAccessTable grid.now flat.now slots.now }
     requires starts_within { All (λ n. n < slot_total grid.now) starts.now.slots.items }
@@ -39,11 +37,8 @@ fn has_no_way<A: Allocator + Copy>(
     requires starts_boxed { AreBoxed grid.now starts.now.boxes.items starts.now.slots.items }
     requires ends_boxed { AreBoxed grid.now ends.now.boxes.items ends.now.slots.items }
     requires count { length marks.old ≡ slot_total grid.now }
-    requires unseen { AreUnseen marks.old }
-    requires untouched { touched.old.items ≡ [] }
     ensures none { IfOk result (λ none. IsTrue none ↔ HasNoWay grid.now flat.now net starts.now.slots.items ends.now.slots.items) }
-    ensures unseen { AreUnseen marks.new }
-    ensures untouched { touched.new.items ≡ [] }
+    ensures count { length marks.new ≡ length marks.old }
 {
     grid_is_sound(grid);
     if starts.slots.is_empty() {
@@ -64,7 +59,7 @@ fn has_no_way<A: Allocator + Copy>(
         end_hulls: end_hulls.as_slice(),
     };
     searches_walk_as_nodes();
-    let walk = shortest(alloc, &graph, &starts.slots, &ends.slots, marks, touched)?;
+    let walk = shortest(alloc, &graph, &starts.slots, &ends.slots, marks)?;
     Ok(walk.is_none())
 }
 
@@ -77,18 +72,14 @@ fn is_unreachable<A: Allocator + Copy>(
     slots: &[SlotAccess],
     net: &OpenNet<A>,
     first: u32,
-    marks: &mut [Mark],
-    touched: &mut Vec<u32, A>,
+    marks: &mut Marks<A>,
 ) -> Result<bool, AllocError>
     requires told { IsAccessTable grid.now flat.now slots.now }
     requires is_open { IsOpenWith grid.now.design flat.now net.now }
     requires least { slice_get net.now.firsts first ≡ Some first }
     requires count { length marks.old ≡ slot_total grid.now }
-    requires unseen { AreUnseen marks.old }
-    requires untouched { touched.old.items ≡ [] }
     ensures unreachable { IfOk result (λ unreachable. IsTrue unreachable ↔ IsUnreachable grid.now.design flat.now net.now.net first) }
-    ensures unseen { AreUnseen marks.new }
-    ensures untouched { touched.new.items ≡ [] }
+    ensures count { length marks.new ≡ length marks.old }
 {
     let shapes = flat.shapes();
     let numbers = net.shapes.as_slice();
@@ -99,9 +90,7 @@ fn is_unreachable<A: Allocator + Copy>(
     nodes_have_numbers();
     joined_both_ways();
     joined_onward();
-    let none = has_no_way(
-        alloc, grid, flat, slots, net.net, &starts, &ends, marks, touched,
-    )?;
+    let none = has_no_way(alloc, grid, flat, slots, net.net, &starts, &ends, marks)?;
     Ok(none)
 }
 
@@ -112,17 +101,13 @@ fn unreachable_piece<A: Allocator + Copy>(
     flat: &Flat<A>,
     slots: &[SlotAccess],
     net: &OpenNet<A>,
-    marks: &mut [Mark],
-    touched: &mut Vec<u32, A>,
+    marks: &mut Marks<A>,
 ) -> Result<Option<u32>, AllocError>
     requires told { IsAccessTable grid.now flat.now slots.now }
     requires is_open { IsOpenWith grid.now.design flat.now net.now }
     requires count { length marks.old ≡ slot_total grid.now }
-    requires unseen { AreUnseen marks.old }
-    requires untouched { touched.old.items ≡ [] }
     ensures found { IfOk result (λ found. IsFirstOfNetIfAny grid.now.design flat.now net.now.net found) }
-    ensures unseen { AreUnseen marks.new }
-    ensures untouched { touched.new.items ≡ [] }
+    ensures count { length marks.new ≡ length marks.old }
 {
     joined_both_ways();
     joined_onward();
@@ -132,7 +117,7 @@ fn unreachable_piece<A: Allocator + Copy>(
         if *first as usize != piece {
             continue;
         }
-        let unreachable = is_unreachable(alloc, grid, flat, slots, net, *first, marks, touched)?;
+        let unreachable = is_unreachable(alloc, grid, flat, slots, net, *first, marks)?;
         if unreachable {
             return Ok(Some(*first));
         }
@@ -154,10 +139,9 @@ pub(crate) fn first_unreachable<A: Allocator + Copy>(
     ensures { IfOk result (λ found. IsFirstUnreachableIfAny design.now flat.now found) }
 {
     let slots = slots_beside(alloc, grid, design, flat.shapes())?;
-    let mut marks = unseen_marks(alloc, grid.size() as usize)?;
-    let mut touched = Vec::new(alloc);
+    let mut marks = Marks::new(alloc, grid.size() as usize)?;
     for net in nets {
-        let found = unreachable_piece(alloc, grid, flat, &slots, net, &mut marks, &mut touched)?;
+        let found = unreachable_piece(alloc, grid, flat, &slots, net, &mut marks)?;
         if let Some(piece) = found {
             return Ok(Some((net.net, piece)));
         }
@@ -178,8 +162,7 @@ pub(crate) fn unreachable_piece_of<A: Allocator + Copy>(
     ensures { IfOk result (λ found. IsFirstOfNetIfAny design.now flat.now net.now.net found) }
 {
     let slots = slots_beside(alloc, grid, design, flat.shapes())?;
-    let mut marks = unseen_marks(alloc, grid.size() as usize)?;
-    let mut touched = Vec::new(alloc);
-    let found = unreachable_piece(alloc, grid, flat, &slots, net, &mut marks, &mut touched)?;
+    let mut marks = Marks::new(alloc, grid.size() as usize)?;
+    let found = unreachable_piece(alloc, grid, flat, &slots, net, &mut marks)?;
     Ok(found)
 }

@@ -10,10 +10,10 @@ use Rattle.leg_rules.specs.declared.shape.Shape.{Shape}
 use Rattle.leg_rules.specs.Metal.Flat.{FlatModel}
 use Rattle.leg_rules.specs.Route.OpenMetal.{IsOpenWire, IsOpenNode, IsOpenStep}
 use Rattle.leg_rules.specs.Route.Meets.{MeetsJoined}
-use Rattle.leg_route_search.specs.Steps.Walks.{IsStep}
+use Rattle.leg_route_search.specs.Steps.SideSteps.{IsStep}
 use Rattle.leg_route_search.specs.Steps.Search.{IsRound}
 use Rattle.leg_route_search.specs.Steps.Dive.{IsOrigin, AreFar}
-use Rattle.leg_route_search.proofs.WalksBack.{back_holds}
+use Rattle.leg_route_search.proofs.LastSteps.{back_holds}
 use Rattle.leg_route_grid.specs.declared.slot_access.SlotAccess.{SlotAccess}
 use Rattle.leg_route_grid.specs.declared.slot_box.SlotBox.{SlotBox}
 use Rattle.leg_route_grid.specs.Steps.WalkBounds.{slot_of, bound_at, IsNeighbourNear}

@@ -5,9 +5,9 @@ use Rattle.std.proofs.lemmas.List.Elements.{All-contains}
 use Rattle.leg_sweep.proofs.Lists.{Contains-nil}
 use Rattle.leg_design_records.specs.Records.{DesignModel}
 use Rattle.leg_rules.specs.Metal.Flat.{FlatModel}
-use Rattle.leg_route_search.specs.Steps.Walks.{IsStep, IsShortestIfAny}
+use Rattle.leg_route_search.specs.Steps.SideSteps.{IsStep}
 use Rattle.leg_route_search.specs.Steps.Dive.{IsOrigin}
-use Rattle.leg_route_search.specs.Steps.Search.{IsRound}
+use Rattle.leg_route_search.specs.Steps.Search.{IsRound, IsShortestIfAny}
 use Rattle.leg_rules.specs.Route.Walk.{IsShortest, NoWalk}
 use Rattle.leg_rules.specs.declared.node.Node.{Node}
 use Rattle.leg_route_grid.specs.declared.slot_access.SlotAccess.{SlotAccess}

@@ -63,13 +63,13 @@ module _ (design : DesignModel) (net : ℕ) (wire : Wire) (before after : FlatMo
     }
 
   -- all is ready still when the net has the wire, where what is new was told to the slots and the net's numbers got its
-  pub ready_more : OwnNumbersGrow → OtherNumbersStay → (grid : GridModel) (slots slots_then : List SlotAccess) (lists : List (List ℕ)) (had own : List ℕ) (marks : List Mark) (touched : List ℕ) (part : PartModel) (joins joins_then : Option JoinsModel)
-      (all first : List Shape) → all ≡ after.shapes → first ≡ before.shapes → net < length design.nets → IsReadyGround design grid before slots lists marks touched part joins
+  pub ready_more : OwnNumbersGrow → OtherNumbersStay → (grid : GridModel) (slots slots_then : List SlotAccess) (lists : List (List ℕ)) (had own : List ℕ) (marks : List Mark) (part : PartModel) (joins joins_then : Option JoinsModel)
+      (all first : List Shape) → all ≡ after.shapes → first ≡ before.shapes → net < length design.nets → IsReadyGround design grid before slots lists marks part joins
       → ((shapes : List Shape) → HasSlotsOf grid shapes slots → HasSlotsOf grid (shapes ++ take (length all - length first) (drop (length first) all)) slots_then)
       → had ≡ get_or lists net [] → own ≡ had ++ range_with_len (length first) (length all - length first)
       → IfSome joins_then (IsWithWire joins net (take (length all - length first) (drop (length first) all)))
-      → IsReadyGround design grid after slots_then (slice_set lists net own) marks touched part joins_then
-  ready_more own_law other_law grid slots slots_then lists had own marks touched part joins joins_then all first all_is first_is low ready told had_is own_is kept =
+      → IsReadyGround design grid after slots_then (slice_set lists net own) marks part joins_then
+  ready_more own_law other_law grid slots slots_then lists had own marks part joins joins_then all first all_is first_is low ready told had_is own_is kept =
       let rest = rest_are all first all_is first_is in
       let then : HasSlotsOf grid (before.shapes ++ more.added) slots_then = rw rest at (told before.shapes ready.told) in
       let own_then : own ≡ get_or lists net [] ++ range_with_len (length before.shapes) (length after.shapes - length before.shapes) = rw (all_is, first_is, had_is) at own_is in
@@ -79,8 +79,6 @@ module _ (design : DesignModel) (net : ℕ) (wire : Wire) (before after : FlatMo
         within = rw (ap length more.pieces ∙ length-set before.pieces net (pieces_with more.terminals (more.wires + 1))) ready.within;
         numbers = numbers_more own_law other_law (length design.nets) lists own low own_then ready.numbers;
         count = ready.count;
-        unseen = ready.unseen;
-        untouched = ready.untouched;
         part_is = part_grows design net wire before after more grid part ready.part_is;
         joins_are = kept_with design net wire before after more joins joins_then ready.joins_are (rw rest at kept);
         given_are = given_with part joins joins_then net (take (length all - length first) (drop (length first) all)) ready.given_are kept;

@@ -25,7 +25,7 @@ use leg_flat::{Flat, FlatFault, Shape};
 use leg_lib_records::Items;
 use leg_route_grid::{Grid, SlotAccess, add_shapes, slots_beside};
 use leg_route_laws::laws::{other_numbers_stay, own_numbers_grow};
-use leg_route_search::{Mark, unseen_marks};
+use leg_route_search::Marks;
 use leg_wire::{NetJoins, numbers_by_net};
 use std::alloc::{AllocError, Allocator};
 use std::mem;
@@ -40,8 +40,7 @@ pub(crate) struct GridGround<'g, 'a, A: Allocator + Copy> {
     flat: Flat<A>,
     slots: Vec<SlotAccess, A>,
     numbers: Vec<Items<u32, A>, A>,
-    marks: Vec<Mark, A>,
-    touched: Vec<u32, A>,
+    marks: Marks<A>,
     part: JoinedPart<A>,
     joins: Option<NetJoins<A>>,
 }
@@ -55,7 +54,7 @@ impl<'g, 'a, A: Allocator + Copy> GridGround<'g, 'a, A> {
         flat: Flat<A>,
     ) -> Result<GridGround<'g, 'a, A>, RouteFault<A>>
         requires clean { IsCleanIn design.now flat }
-        ensures ready { IfOk result (λ ground. IsReadyGround design.now ground.grid ground.flat ground.slots.items ground.numbers.items ground.marks.items ground.touched.items
+        ensures ready { IfOk result (λ ground. IsReadyGround design.now ground.grid ground.flat ground.slots.items ground.numbers.items ground.marks
             (record {
               net = ground.part.net;
               joined = ground.part.joined.items;
@@ -73,7 +72,7 @@ impl<'g, 'a, A: Allocator + Copy> GridGround<'g, 'a, A> {
         let slots = slots_beside(alloc, &grid, design, flat.shapes())?;
         let nets = design.nets().len() as u32;
         let numbers = numbers_by_net(alloc, flat.shapes(), nets)?;
-        let marks = unseen_marks(alloc, grid.size() as usize)?;
+        let marks = Marks::new(alloc, grid.size() as usize)?;
         Ok(GridGround {
             design,
             grid,
@@ -81,7 +80,6 @@ impl<'g, 'a, A: Allocator + Copy> GridGround<'g, 'a, A> {
             slots,
             numbers,
             marks,
-            touched: Vec::new(alloc),
             part: JoinedPart::new(alloc, 0),
             joins: None,
         })
@@ -96,7 +94,7 @@ impl<'g, 'a, A: Allocator + Copy> Ground<A> for GridGround<'g, 'a, A> {
 
     ghost flat = { λ g. g.flat };
 
-    ghost IsReady = { λ g. IsReadyGround g.design.now g.grid g.flat g.slots.items g.numbers.items g.marks.items g.touched.items
+    ghost IsReady = { λ g. IsReadyGround g.design.now g.grid g.flat g.slots.items g.numbers.items g.marks
         (record {
           net = g.part.net;
           joined = g.part.joined.items;
@@ -129,7 +127,6 @@ impl<'g, 'a, A: Allocator + Copy> Ground<A> for GridGround<'g, 'a, A> {
             own,
             &mut part,
             &mut self.marks,
-            &mut self.touched,
         )?;
         self.part = part;
         Ok(step_by(wires))

@@ -2,7 +2,6 @@
 
 ghost use Rattle.std.specs.Prelude.{◌≡◌, ◌↔◌, ◌<◌, ◌^◌, ℕ, [], IsTrue, map, All, Contains, length, IfOk, OnOk, IfSome};
 ghost use Rattle.std.specs.Option.{option_map};
-ghost use Rattle.leg_route_search.specs.Steps.FreshMarks.{AreUnseen};
 ghost use Rattle.leg_wire.specs.NetShapes.{AreNumbersOf};
 ghost use Rattle.leg_wire.specs.PieceMarks.{AreMarks};
 ghost use Rattle.leg_rules.specs.Joins.Touch.{piece_count, AreJoined};
@@ -29,7 +28,7 @@ use leg_route_grid::{
     BoxedSlots, Grid, Hull, NetGraph, SlotAccess, add_slots_in, grid_is_sound, hulls_of, nodes_of,
     wires_of,
 };
-use leg_route_search::{Mark, far_walk, near_walk};
+use leg_route_search::{Marks, far_walk, near_walk};
 use std::alloc::{AllocError, Allocator};
 
 /// Whether the piece has this mark.
@@ -82,24 +81,19 @@ fn walk_nearby<A: Allocator + Copy>(
     hulls: &[Hull],
     ends: &mut [EndSlot],
     limit: &mut u64,
-    marks: &mut [Mark],
-    touched: &mut Vec<u32, A>,
+    marks: &mut Marks<A>,
     left_out: &mut bool,
 ) -> Result<Option<Vec<u32, A>>, AllocError>
     requires given { IsSearchFrom grid.now flat.now slots.now net starts.now.slots.items starts.now.boxes.items hulls.now }
     requires ends_within { All (λ (end : EndSlot). end.slot < slot_total grid.now) ends.old }
     requires far { All (λ (end : EndSlot). IsFarSlot grid.now flat.now net starts.now.boxes.items end.least end.slot) ends.old }
     requires count { length marks.old ≡ slot_total grid.now }
-    requires unseen { AreUnseen marks.old }
-    requires untouched { touched.old.items ≡ [] }
     ensures answer { IfOk result (λ walk. IsNearestAt grid.now flat.now net (map (λ (end : EndSlot). end.slot) ends.old) left_out.new
         (option_map (λ numbers. numbers.items) walk)) }
     ensures within { IfOk result (λ walk. IfSome walk (λ numbers. All (λ n. n < slot_total grid.now) numbers.items)) }
     ensures same { AreSameEnds ends.old ends.new }
     ensures far { All (λ (end : EndSlot). IsFarSlot grid.now flat.now net starts.now.boxes.items end.least end.slot) ends.new }
-    ensures count { length marks.new ≡ slot_total grid.now }
-    ensures unseen { AreUnseen marks.new }
-    ensures untouched { touched.new.items ≡ [] }
+    ensures count { length marks.new ≡ length marks.old }
 {
     grid_is_sound(grid);
     *left_out = false;
@@ -121,9 +115,7 @@ fn walk_nearby<A: Allocator + Copy>(
     searches_walk_as_numbers();
     let last = slots_of_ends(alloc, ends)?;
     let mut known = steps_to_ends(alloc, ends)?;
-    let walk = near_walk(
-        alloc, &graph, &last, &mut known, limit, marks, touched, left_out,
-    )?;
+    let walk = near_walk(alloc, &graph, &last, &mut known, limit, marks, left_out)?;
     note_steps(ends, &known);
     Ok(walk)
 }
@@ -140,20 +132,16 @@ fn walk_further<A: Allocator + Copy>(
     hulls: &[Hull],
     ends: &BoxedSlots<A>,
     limit: u64,
-    marks: &mut [Mark],
-    touched: &mut Vec<u32, A>,
+    marks: &mut Marks<A>,
 ) -> Result<Option<Vec<u32, A>>, AllocError>
     requires given { IsSearchFrom grid.now flat.now slots.now net starts.now.slots.items starts.now.boxes.items hulls.now }
     requires ends { (n : ℕ) → Contains ends.now.slots.items n ↔ IsOneOf (IsNumberOf grid.now) (MeetsRest flat.now net) n }
     requires ends_within { All (λ n. n < slot_total grid.now) ends.now.slots.items }
     requires ends_boxed { AreBoxed grid.now ends.now.boxes.items ends.now.slots.items }
     requires count { length marks.old ≡ slot_total grid.now }
-    requires unseen { AreUnseen marks.old }
-    requires untouched { touched.old.items ≡ [] }
     ensures answer { IfOk result (λ walk. IsNextAnswerAt grid.now flat.now net (option_map (λ numbers. numbers.items) walk)) }
     ensures within { IfOk result (λ walk. IfSome walk (λ numbers. All (λ n. n < slot_total grid.now) numbers.items)) }
-    ensures unseen { AreUnseen marks.new }
-    ensures untouched { touched.new.items ≡ [] }
+    ensures count { length marks.new ≡ length marks.old }
 {
     grid_is_sound(grid);
     let end_hulls = hulls_of(alloc, &ends.boxes)?;
@@ -167,15 +155,7 @@ fn walk_further<A: Allocator + Copy>(
         end_hulls: end_hulls.as_slice(),
     };
     searches_walk_as_numbers();
-    let walk = far_walk(
-        alloc,
-        &graph,
-        &starts.slots,
-        &ends.slots,
-        limit,
-        marks,
-        touched,
-    )?;
+    let walk = far_walk(alloc, &graph, &starts.slots, &ends.slots, limit, marks)?;
     Ok(walk)
 }
 
@@ -315,8 +295,7 @@ fn next_walk<A: Allocator + Copy>(
     net: u32,
     numbers: &[u32],
     part: &mut JoinedPart<A>,
-    marks: &mut [Mark],
-    touched: &mut Vec<u32, A>,
+    marks: &mut Marks<A>,
 ) -> Result<Option<Vec<u32, A>>, AllocError>
     requires told { IsAccessTable grid.now flat.now slots.now }
     requires numbers { AreNumbersOf flat.now.shapes net numbers.now }
@@ -324,16 +303,13 @@ fn next_walk<A: Allocator + Copy>(
     requires part { IsPartOf grid.now flat.now net part.old.joined.items numbers.now
         part.old.slots.boxes.items part.old.slots.slots.items part.old.hulls.items (ends_in part.old.ends) }
     requires count { length marks.old ≡ slot_total grid.now }
-    requires unseen { AreUnseen marks.old }
-    requires untouched { touched.old.items ≡ [] }
     ensures answer { IfOk result (λ walk. IsNextAnswerAt grid.now flat.now net (option_map (λ numbers. numbers.items) walk)) }
     ensures within { IfOk result (λ walk. IfSome walk (λ numbers. All (λ n. n < slot_total grid.now) numbers.items)) }
     ensures part { OnOk result (IsPartOf grid.now flat.now net part.new.joined.items numbers.now
         part.new.slots.boxes.items part.new.slots.slots.items part.new.hulls.items (ends_in part.new.ends)) }
     ensures same_net { part.new.net ≡ part.old.net }
     ensures same_joined { part.new.joined.items ≡ part.old.joined.items }
-    ensures unseen { AreUnseen marks.new }
-    ensures untouched { touched.new.items ≡ [] }
+    ensures count { length marks.new ≡ length marks.old }
 {
     let mut limit = 0;
     let mut left_out = false;
@@ -347,7 +323,6 @@ fn next_walk<A: Allocator + Copy>(
         part,
         &mut limit,
         marks,
-        touched,
         &mut left_out,
     )?;
     if let Some(walk) = near {
@@ -369,14 +344,13 @@ fn next_walk<A: Allocator + Copy>(
         &ends,
         limit,
         marks,
-        touched,
     )?;
     Ok(walk)
 }
 
 /// The wires of a shortest open walk from the joined part of the net to the rest, or `None` where there is no such walk. `slots`
 /// has for each slot of the grid what is open in the flat, `numbers` are those of the net's shapes, and `part` is what is kept of its
-/// joined pieces and of the others, for which is noted what is found out of them. `marks` has one for each slot. `touched` is room to work in. Of several such walks one is taken as
+/// joined pieces and of the others, for which is noted what is found out of them. `marks` has one for each slot. Of several such walks one is taken as
 /// `shortest` of `leg_route_search` states.
 ///
 /// It fails only when out of memory.
@@ -389,8 +363,7 @@ pub(crate) fn next_wires<A: Allocator + Copy>(
     net: u32,
     numbers: &[u32],
     part: &mut JoinedPart<A>,
-    marks: &mut [Mark],
-    touched: &mut Vec<u32, A>,
+    marks: &mut Marks<A>,
 ) -> Result<Option<Vec<Wire, A>>, AllocError>
     requires of_design { grid.now.design ≡ design.now }
     requires told { IsAccessTable grid.now flat.now slots.now }
@@ -400,18 +373,14 @@ pub(crate) fn next_wires<A: Allocator + Copy>(
     requires part { IsPartOf grid.now flat.now net part.old.joined.items numbers.now
         part.old.slots.boxes.items part.old.slots.slots.items part.old.hulls.items (ends_in part.old.ends) }
     requires count { length marks.old ≡ slot_total grid.now }
-    requires unseen { AreUnseen marks.old }
-    requires untouched { touched.old.items ≡ [] }
     ensures answer { IfOk result (λ answer. IsNextAnswer design.now flat.now net (option_map (λ wires. wires.items) answer)) }
     ensures part { OnOk result (IsPartOf grid.now flat.now net part.new.joined.items numbers.now
         part.new.slots.boxes.items part.new.slots.slots.items part.new.hulls.items (ends_in part.new.ends)) }
     ensures same_net { part.new.net ≡ part.old.net }
     ensures same_joined { part.new.joined.items ≡ part.old.joined.items }
     ensures count { length marks.new ≡ length marks.old }
-    ensures unseen { AreUnseen marks.new }
-    ensures untouched { touched.new.items ≡ [] }
 {
-    let found = next_walk(alloc, grid, flat, slots, net, numbers, part, marks, touched)?;
+    let found = next_walk(alloc, grid, flat, slots, net, numbers, part, marks)?;
     grid_is_sound(grid);
     nodes_have_numbers();
     numbers_walk_as_nodes();

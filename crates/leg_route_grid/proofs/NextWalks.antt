@@ -3,7 +3,7 @@ use Rattle.std.proofs.Common.{◌≡◌, ℕ, ◌↔◌, List, Contains}
 use Rattle.std.specs.List.{AllZip}
 use Rattle.leg_lib_records.specs.Sound.{IsSound}
 use Rattle.leg_rules.specs.Metal.Flat.{FlatModel}
-use Rattle.leg_route_search.specs.Steps.Walks.{IsStep}
+use Rattle.leg_route_search.specs.Steps.SideSteps.{IsStep}
 use Rattle.leg_rules.specs.Route.Walk.{IsShortest, NoWalk}
 use Rattle.leg_rules.specs.declared.node.Node.{Node}
 use Rattle.leg_route_grid.specs.declared.slot_access.SlotAccess.{SlotAccess}

@@ -8,7 +8,7 @@ use Rattle.leg_design_records.specs.Records.{DesignModel}
 use Rattle.leg_rules.specs.Metal.Flat.{FlatModel}
 use Rattle.leg_rules.specs.declared.side.Side.{Side}
 use Rattle.leg_rules.specs.declared.side.Side.TheVariants.{West, East, South, North, Below, Above}
-use Rattle.leg_route_search.specs.Steps.Walks.{IsStep}
+use Rattle.leg_route_search.specs.Steps.SideSteps.{IsStep}
 use Rattle.leg_rules.specs.declared.node.Node.{Node}
 use Rattle.leg_route_grid.specs.declared.layers.RoutingLayer.{RoutingLayer}
 use Rattle.leg_route_grid.specs.declared.slot.Slot.{Slot}

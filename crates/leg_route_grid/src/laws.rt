@@ -11,7 +11,7 @@ ghost use Rattle.leg_route_grid.specs.declared.slot_access.SlotAccess.{SlotAcces
 ghost use Rattle.leg_rules.specs.Route.Nodes.{IsNode};
 ghost use Rattle.leg_rules.specs.Route.Neighbours.{IsNeighbour};
 ghost use Rattle.leg_route_grid.specs.Steps.SlotNeighbours.{IsSlotNeighbour};
-ghost use Rattle.leg_route_search.specs.Steps.Walks.{IsStep};
+ghost use Rattle.leg_route_search.specs.Steps.SideSteps.{IsStep};
 ghost use Rattle.leg_rules.specs.Route.Walk.{IsShortest, NoWalk};
 ghost use Rattle.leg_route_grid.specs.declared.slot_box.SlotBox.{SlotBox};
 ghost use Rattle.leg_rules.specs.Route.OpenMetal.{IsOpenNode, IsOpenStep};

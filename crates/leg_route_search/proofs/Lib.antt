@@ -1,10 +1,10 @@
 -- Marks and how they spread
-mod Marks
+mod NewMarks
 mod Spread
 mod LeastBounds
 mod Sides
 -- What the marks say of walks
-mod Walks
+mod ReachedEnds
 mod SearchSoFar
 mod WayBack
-pub mod WalksBack
+pub mod LastSteps

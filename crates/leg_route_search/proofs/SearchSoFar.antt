@@ -4,12 +4,11 @@ use Rattle.std.proofs.lemmas.Bool.{cases_lt, cases_eq, false≢true}
 use Rattle.std.proofs.lemmas.List.Sums.{count_by-le-length}
 use Rattle.leg_route_search.specs.declared.mark.Mark.{Mark}
 use Rattle.leg_route_search.specs.declared.mark.Mark.TheVariants.{Unseen, Shut, Reached, Far}
-use Rattle.leg_route_search.specs.Steps.FreshMarks.{AreUnseen}
-use Rattle.leg_route_search.specs.Steps.Marks.{is_unseen, IsMark, IsAt}
+use Rattle.leg_route_search.specs.Steps.Marks.{is_unseen, AreUnseen, IsMark, IsAt}
 use Rattle.leg_route_search.specs.Steps.Spread.{IsNew, IsSpread}
 use Rattle.leg_route_search.specs.Steps.Search.{IsSearchSoFar, IsNearestSoFar, IsFound}
-use Rattle.leg_route_search.proofs.Marks.{unseen_no_mark}
-use Rattle.leg_route_search.proofs.Walks.{walk_open, bound_holds, end_reached, all_reached}
+use Rattle.leg_route_search.proofs.NewMarks.{unseen_no_mark}
+use Rattle.leg_route_search.proofs.ReachedEnds.{walk_open, bound_holds, end_reached, all_reached}
 
 -- an empty list contains nothing
 none_there : (a : ℕ) → Contains [] a → ⊥

@@ -6,7 +6,7 @@ use Rattle.leg_route_search.specs.declared.mark.Mark.{Mark}
 use Rattle.leg_route_search.specs.declared.mark.Mark.TheVariants.{Unseen, Shut, Reached, Far}
 use Rattle.leg_route_search.specs.Steps.Marks.{is_unseen, IsSeen, IsAt}
 use Rattle.leg_route_search.specs.Steps.Spread.{IsNew, IsSpread, IsEntered}
-use Rattle.leg_route_search.proofs.Marks.{mark_here, mark_kept, mark_cases, one_fewer}
+use Rattle.leg_route_search.proofs.NewMarks.{mark_here, mark_kept, mark_cases, one_fewer}
 
 module _ (Open : ℕ → Type 0) (bound : ℕ → ℕ) (limit level : ℕ) where
   -- Each node that was tried has a mark already, or none was tried.

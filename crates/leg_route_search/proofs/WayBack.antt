@@ -8,7 +8,7 @@ use Rattle.leg_rules.specs.Route.Walk.Walk.{here, on}
 use Rattle.leg_route_search.specs.Steps.Marks.{IsMark, IsAt}
 use Rattle.leg_route_search.specs.Steps.Search.{AreLinked, IsNearestSoFar}
 use Rattle.leg_route_search.specs.Steps.Back.{IsReached, IsEntry, AreEntered, IsWay}
-use Rattle.leg_route_search.proofs.Marks.{one_mark}
+use Rattle.leg_route_search.proofs.NewMarks.{one_mark}
 
 -- A node is reached at one level.
 same_level : (marks : List Mark) (a level k f from : ℕ) → IsMark marks a (Reached level f) → IsMark marks a (Reached k from) → level ≡ k

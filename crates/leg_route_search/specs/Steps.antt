@@ -1,4 +1,4 @@
--- Intermediate state of the search. Only private contracts cite it.
+-- Intermediate state of the search, and what a caller hands from one search to the next.
 pub mod Marks
 pub mod Spread
 pub mod Starts
@@ -6,5 +6,4 @@ pub mod Search
 pub mod Back
 pub mod Dive
 pub mod Side
-pub mod FreshMarks
-pub mod Walks
+pub mod SideSteps

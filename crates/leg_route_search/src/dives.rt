@@ -1,16 +1,15 @@
 //! Dives from the ends, in rounds of a growing limit.
 
-ghost use Rattle.std.specs.Prelude.{◌≡◌, ◌≤◌, ◌<◌, ℕ, [], false, length, get_or, All, Contains, IfOk, IfSome};
+ghost use Rattle.std.specs.Prelude.{◌≡◌, ◌≤◌, ◌<◌, ℕ, false, length, get_or, All, Contains, IfOk, IfSome};
 ghost use Rattle.std.specs.Option.{option_map};
-ghost use Rattle.leg_route_search.specs.Steps.Walks.{IsStep};
-ghost use Rattle.leg_route_search.specs.Steps.FreshMarks.{AreUnseen};
-ghost use Rattle.leg_route_search.specs.Steps.Marks.{IsNoted};
-ghost use Rattle.leg_route_search.specs.Steps.Dive.{IsOrigin, AreFar, AreLowerBounds, IsKnownNow, AreKnownNow, IsWalkBack};
+ghost use Rattle.leg_route_search.specs.Steps.SideSteps.{IsStepIn};
+ghost use Rattle.leg_route_search.specs.Steps.Dive.{IsStartIn, AreFar, AreTrueMarks, IsKnownNow, AreKnownNow, IsWalkFromStart};
 ghost use Rattle.leg_route_search.specs.Steps.Search.{IsRound};
 
 use crate::dive::{dive, is_open, one_more, steps_left};
 use crate::graph::Graph;
 use crate::mark::Mark;
+use crate::marks::Marks;
 use std::alloc::{AllocError, Allocator};
 
 /// How many rounds there are at most. Where other wires are in the way, a walk often has some steps more than its
@@ -29,40 +28,38 @@ const NOTED_FOR_EACH_STEP: usize = 64;
 /// a search by levels looks at all starts.
 const NOTED_FOR_EACH_END: usize = 32;
 
-/// A shortest walk, where a few rounds of dives find one. Each round looks for a walk of as many steps as each has at least, as
-/// far as the rounds before it have found. Where none is found, `limit` is that number, and `left_out` whether there may be a walk:
-/// there is none where no end is open. For each end `known` has how many steps a walk to it has at least, as far as is known.
-pub(crate) fn walk_by_dives<G: Graph, A: Allocator + Copy>(
+/// Looks for a shortest walk by dives, in a few rounds. Each round looks for a walk of as many steps as each has at least, as far as the
+/// rounds before it have found. For each end `known` has a number of steps, of which an open walk from a start to it has no fewer: an end
+/// that is further by that than the nearest is not asked about, and of the others `known` has what the dives find out. How many steps are
+/// left from a node to the ends is not asked. Where no walk is found, `limit` is how many steps each has at least, and `left_out` whether
+/// there may be one: there is none where no end is open. `far_walk` goes on from there. The walk is the one that `shortest` finds.
+pub fn near_walk<G: Graph, A: Allocator + Copy>(
     alloc: A,
     graph: &G,
     ends: &[u32],
     known: &mut [u32],
     limit: &mut u64,
-    marks: &mut [Mark],
-    touched: &mut Vec<u32, A>,
+    marks: &mut Marks<A>,
     left_out: &mut bool,
 ) -> Result<Option<Vec<u32, A>>, AllocError>
     requires count { length marks.old ≡ G.size_of graph.now }
-    requires unseen { AreUnseen marks.old }
-    requires untouched { touched.old.items ≡ [] }
     requires ends { All (λ a. a < G.size_of graph.now) ends.now }
-    requires known { AreFar (G.OpenNode graph.now) (IsStep (G.IsBeside graph.now) (G.OpenStep graph.now))
-        (IsOrigin (G.size_of graph.now) (G.back_bound_of graph.now)) ends.now known.old }
-    ensures found { IfOk result (λ walk. IsRound (G.OpenNode graph.now) (IsStep (G.IsBeside graph.now) (G.OpenStep graph.now))
-        (IsOrigin (G.size_of graph.now) (G.back_bound_of graph.now)) (Contains ends.now) left_out.new (option_map (λ nodes. nodes.items) walk)) }
-    ensures known { AreFar (G.OpenNode graph.now) (IsStep (G.IsBeside graph.now) (G.OpenStep graph.now))
-        (IsOrigin (G.size_of graph.now) (G.back_bound_of graph.now)) ends.now known.new }
-    ensures noted { IsNoted marks.new touched.new.items }
+    requires known { AreFar (G.OpenNode graph.now) (IsStepIn G.Graph graph.now) (IsStartIn G.Graph graph.now) ends.now known.old }
+    ensures found { IfOk result (λ walk. IsRound (G.OpenNode graph.now) (IsStepIn G.Graph graph.now) (IsStartIn G.Graph graph.now)
+        (Contains ends.now) left_out.new (option_map (λ nodes. nodes.items) walk)) }
+    ensures known { AreFar (G.OpenNode graph.now) (IsStepIn G.Graph graph.now) (IsStartIn G.Graph graph.now) ends.now known.new }
+    ensures count { length marks.new ≡ length marks.old }
 {
+    marks.reset();
     let mut left = least_left(ends, known, marks);
     let for_ends = ends.len().saturating_mul(NOTED_FOR_EACH_END);
     let most = for_ends.saturating_add(left as usize * NOTED_FOR_EACH_STEP);
     'rounds: for _ in 0..ROUNDS {
-        if left > DEEPEST || touched.len() >= most {
+        if left > DEEPEST || marks.noted() >= most {
             break;
         }
         let near = near_ends(alloc, ends, known, left)?;
-        let walk = dive_from_ends(alloc, graph, &near, left, most, marks, touched)?;
+        let walk = dive_from_ends(alloc, graph, &near, left, most, marks)?;
         left = least_left(ends, known, marks);
         if let Some(nodes) = walk {
             return Ok(Some(nodes));
@@ -75,7 +72,7 @@ pub(crate) fn walk_by_dives<G: Graph, A: Allocator + Copy>(
 
 /// How many steps a walk from a start to an end has at least, as far as is known. For each end `known` has how many a walk to it had at
 /// least by what was known before, and then what is known now.
-fn least_left(ends: &[u32], known: &mut [u32], marks: &[Mark]) -> u32
+fn least_left<A: Allocator>(ends: &[u32], known: &mut [u32], marks: &Marks<A>) -> u32
     requires one_each { length known.old ≡ length ends.now }
     requires within { All (λ a. a < length marks.now) ends.now }
     ensures now { AreKnownNow marks.now ends.now known.old known.new }
@@ -91,11 +88,11 @@ fn least_left(ends: &[u32], known: &mut [u32], marks: &[Mark]) -> u32
 }
 
 /// How many steps a walk from a start to the end has at least, to which it had at least so many by what was known before.
-fn known_now(end: u32, known: u32, marks: &[Mark]) -> u32
+fn known_now<A: Allocator>(end: u32, known: u32, marks: &Marks<A>) -> u32
     requires { end < length marks.now }
     ensures { IsKnownNow marks.now end known result }
 {
-    match marks[end as usize] {
+    match marks.mark(end) {
         Mark::Far { steps } => known.max(steps),
         Mark::Shut => u32::MAX,
         Mark::Unseen | Mark::Reached { .. } => known,
@@ -142,23 +139,16 @@ fn dive_from_ends<G: Graph, A: Allocator + Copy>(
     ends: &[u32],
     left: u32,
     most: usize,
-    marks: &mut [Mark],
-    touched: &mut Vec<u32, A>,
+    marks: &mut Marks<A>,
 ) -> Result<Option<Vec<u32, A>>, AllocError>
-    requires count { length marks.old ≡ G.size_of graph.now }
     requires within { (a : ℕ) → Contains ends.now a → a < G.size_of graph.now }
-    requires known { AreLowerBounds (G.OpenNode graph.now) (IsStep (G.IsBeside graph.now) (G.OpenStep graph.now))
-        (IsOrigin (G.size_of graph.now) (G.back_bound_of graph.now)) marks.old }
-    requires noted { IsNoted marks.old touched.old.items }
+    requires known { AreTrueMarks G.Graph graph.now marks.old }
     ensures found { IfOk result (λ walk. IfSome walk (λ nodes. (end : ℕ) × Contains ends.now end
-        × IsWalkBack (G.OpenNode graph.now) (IsStep (G.IsBeside graph.now) (G.OpenStep graph.now))
-        (IsOrigin (G.size_of graph.now) (G.back_bound_of graph.now)) left end nodes.items)) }
-    ensures known { AreLowerBounds (G.OpenNode graph.now) (IsStep (G.IsBeside graph.now) (G.OpenStep graph.now))
-        (IsOrigin (G.size_of graph.now) (G.back_bound_of graph.now)) marks.new }
-    ensures noted { IsNoted marks.new touched.new.items }
+        × IsWalkFromStart (G.OpenNode graph.now) (IsStepIn G.Graph graph.now) (IsStartIn G.Graph graph.now) left end nodes.items)) }
+    ensures known { AreTrueMarks G.Graph graph.now marks.new }
 {
     for end in ends {
-        let walk = dive_from(alloc, graph, *end, left, most, marks, touched)?;
+        let walk = dive_from(alloc, graph, *end, left, most, marks)?;
         if let Some(nodes) = walk {
             return Ok(Some(nodes));
         }
@@ -173,25 +163,19 @@ fn dive_from<G: Graph, A: Allocator + Copy>(
     end: u32,
     left: u32,
     most: usize,
-    marks: &mut [Mark],
-    touched: &mut Vec<u32, A>,
+    marks: &mut Marks<A>,
 ) -> Result<Option<Vec<u32, A>>, AllocError>
-    requires count { length marks.old ≡ G.size_of graph.now }
     requires within { end < G.size_of graph.now }
-    requires known { AreLowerBounds (G.OpenNode graph.now) (IsStep (G.IsBeside graph.now) (G.OpenStep graph.now))
-        (IsOrigin (G.size_of graph.now) (G.back_bound_of graph.now)) marks.old }
-    requires noted { IsNoted marks.old touched.old.items }
-    ensures found { IfOk result (λ walk. IfSome walk (λ nodes. IsWalkBack (G.OpenNode graph.now) (IsStep (G.IsBeside graph.now) (G.OpenStep graph.now))
-        (IsOrigin (G.size_of graph.now) (G.back_bound_of graph.now)) left end nodes.items)) }
-    ensures known { AreLowerBounds (G.OpenNode graph.now) (IsStep (G.IsBeside graph.now) (G.OpenStep graph.now))
-        (IsOrigin (G.size_of graph.now) (G.back_bound_of graph.now)) marks.new }
-    ensures noted { IsNoted marks.new touched.new.items }
+    requires known { AreTrueMarks G.Graph graph.now marks.old }
+    ensures found { IfOk result (λ walk. IfSome walk (λ nodes.
+        IsWalkFromStart (G.OpenNode graph.now) (IsStepIn G.Graph graph.now) (IsStartIn G.Graph graph.now) left end nodes.items)) }
+    ensures known { AreTrueMarks G.Graph graph.now marks.new }
 {
     let least = steps_left(graph, end, one_more(left), marks);
-    let is_open = is_open(graph, end, least, marks, touched)?;
+    let is_open = is_open(graph, end, least, marks)?;
     if !is_open || least > left {
         return Ok(None);
     }
-    let walk = dive(alloc, graph, end, left, most, marks, touched)?;
+    let walk = dive(alloc, graph, end, left, most, marks)?;
     Ok(walk)
 }

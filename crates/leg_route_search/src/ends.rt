@@ -4,9 +4,11 @@ ghost use Rattle.std.specs.Prelude.{◌≡◌, ◌⊎◌, ◌<◌, ◌↔◌, Is
 ghost use Rattle.leg_route_search.specs.Steps.Marks.{IsAt};
 
 use crate::mark::Mark;
+use crate::marks::Marks;
+use std::alloc::Allocator;
 
 /// The least of the ends that are reached at this level.
-pub(crate) fn least_end(ends: &[u32], marks: &[Mark], level: u32) -> Option<u32>
+pub(crate) fn least_end<A: Allocator>(ends: &[u32], marks: &Marks<A>, level: u32) -> Option<u32>
     requires { All (λ a. a < length marks.now) ends.now }
     ensures { MatchOption result ((a : ℕ) → Contains ends.now a → IsAt marks.now a level → ⊥) (λ end. Contains ends.now end × IsAt marks.now end level) }
 {
@@ -20,11 +22,11 @@ pub(crate) fn least_end(ends: &[u32], marks: &[Mark], level: u32) -> Option<u32>
 }
 
 /// Whether the node is reached at this level.
-fn is_reached(marks: &[Mark], node: u32, level: u32) -> bool
+fn is_reached<A: Allocator>(marks: &Marks<A>, node: u32, level: u32) -> bool
     requires { node < length marks.now }
     ensures { IsTrue result ↔ IsAt marks.now node level }
 {
-    match marks[node as usize] {
+    match marks.mark(node) {
         Mark::Reached { level: found, .. } => found == level,
         Mark::Unseen | Mark::Shut | Mark::Far { .. } => false,
     }

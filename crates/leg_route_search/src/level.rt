@@ -1,12 +1,12 @@
 //! One level of a search: the nodes that are a step further than those before.
 
-ghost use Rattle.std.specs.Prelude.{◌≡◌, ◌≤◌, ◌<◌, ◌+◌, ◌^◌, ℕ, IsTrue, true, false, length, slice_get, All, Contains, OnOk};
-ghost use Rattle.leg_route_search.specs.Steps.Walks.{IsStepTo, IsStep};
-ghost use Rattle.leg_route_search.specs.Steps.Marks.{is_unseen, IsSeen, IsNoted};
+ghost use Rattle.std.specs.Prelude.{◌≡◌, ◌≤◌, ◌<◌, ◌+◌, ◌^◌, ℕ, IsTrue, true, false, length, All, Contains, OnOk};
+ghost use Rattle.leg_route_search.specs.Steps.SideSteps.{IsStepTo, IsStepIn};
 ghost use Rattle.leg_route_search.specs.Steps.Spread.{IsSpread, IsEntered};
 
 use crate::graph::Graph;
 use crate::mark::Mark;
+use crate::marks::Marks;
 use leg_rules::Side;
 use leg_rules::Side::{Above, Below, East, North, South, West};
 use std::alloc::{AllocError, Allocator};
@@ -26,25 +26,23 @@ pub(crate) fn one_level<G: Graph, A: Allocator>(
     graph: &G,
     front: &[u32],
     level: Level,
-    marks: &mut [Mark],
+    marks: &mut Marks<A>,
     next: &mut Vec<u32, A>,
-    touched: &mut Vec<u32, A>,
     left_out: &mut bool,
 ) -> Result<(), AllocError>
     requires count { length marks.old ≡ G.size_of graph.now }
     requires within { All (λ a. a < G.size_of graph.now) front.now }
-    requires noted { IsNoted marks.old touched.old.items }
     ensures spread { OnOk result (IsSpread (G.OpenNode graph.now)
-        (λ a b. Contains front.now a × IsStep (G.IsBeside graph.now) (G.OpenStep graph.now) a b) (G.bound_of graph.now) level.limit level.number
+        (λ a b. Contains front.now a × IsStepIn G.Graph graph.now a b) (G.bound_of graph.now) level.limit level.number
         marks.old next.old.items left_out.old marks.new next.new.items left_out.new) }
-    ensures noted { IsNoted marks.new touched.new.items }
+    ensures count { length marks.new ≡ length marks.old }
 {
-    follow(graph, front, East, level, marks, next, touched, left_out)?;
-    follow(graph, front, West, level, marks, next, touched, left_out)?;
-    follow(graph, front, North, level, marks, next, touched, left_out)?;
-    follow(graph, front, South, level, marks, next, touched, left_out)?;
-    follow(graph, front, Above, level, marks, next, touched, left_out)?;
-    follow(graph, front, Below, level, marks, next, touched, left_out)?;
+    follow(graph, front, East, level, marks, next, left_out)?;
+    follow(graph, front, West, level, marks, next, left_out)?;
+    follow(graph, front, North, level, marks, next, left_out)?;
+    follow(graph, front, South, level, marks, next, left_out)?;
+    follow(graph, front, Above, level, marks, next, left_out)?;
+    follow(graph, front, Below, level, marks, next, left_out)?;
     Ok(())
 }
 
@@ -54,21 +52,19 @@ fn follow<G: Graph, A: Allocator>(
     front: &[u32],
     side: Side,
     level: Level,
-    marks: &mut [Mark],
+    marks: &mut Marks<A>,
     next: &mut Vec<u32, A>,
-    touched: &mut Vec<u32, A>,
     left_out: &mut bool,
 ) -> Result<(), AllocError>
     requires count { length marks.old ≡ G.size_of graph.now }
     requires within { All (λ a. a < G.size_of graph.now) front.now }
-    requires noted { IsNoted marks.old touched.old.items }
     ensures spread { OnOk result (IsSpread (G.OpenNode graph.now)
         (λ a b. Contains front.now a × IsStepTo (G.IsBeside graph.now) (G.OpenStep graph.now) side a b) (G.bound_of graph.now) level.limit level.number
         marks.old next.old.items left_out.old marks.new next.new.items left_out.new) }
-    ensures noted { IsNoted marks.new touched.new.items }
+    ensures count { length marks.new ≡ length marks.old }
 {
     for node in front {
-        follow_one(graph, *node, side, level, marks, next, touched, left_out)?;
+        follow_one(graph, *node, side, level, marks, next, left_out)?;
     }
     Ok(())
 }
@@ -80,23 +76,21 @@ fn follow_one<G: Graph, A: Allocator>(
     node: u32,
     side: Side,
     level: Level,
-    marks: &mut [Mark],
+    marks: &mut Marks<A>,
     next: &mut Vec<u32, A>,
-    touched: &mut Vec<u32, A>,
     left_out: &mut bool,
 ) -> Result<(), AllocError>
     requires count { length marks.old ≡ G.size_of graph.now }
     requires within { node < G.size_of graph.now }
-    requires noted { IsNoted marks.old touched.old.items }
     ensures spread { OnOk result (IsSpread (G.OpenNode graph.now)
         (λ a b. (a ≡ node) × IsStepTo (G.IsBeside graph.now) (G.OpenStep graph.now) side a b) (G.bound_of graph.now) level.limit level.number
         marks.old next.old.items left_out.old marks.new next.new.items left_out.new) }
-    ensures noted { IsNoted marks.new touched.new.items }
+    ensures count { length marks.new ≡ length marks.old }
 {
     let Some(to) = graph.beside(node, side) else {
         return Ok(());
     };
-    if !is_unseen(marks, to) {
+    if !marks.is_unseen(to) {
         return Ok(());
     }
     if is_too_far(graph, to, level) {
@@ -111,17 +105,8 @@ fn follow_one<G: Graph, A: Allocator>(
         from: node,
     };
     let is_open = graph.is_open_beyond(node, side, to);
-    enter(to, is_open, mark, marks, next, touched)?;
+    enter(to, is_open, mark, marks, next)?;
     Ok(())
-}
-
-/// Whether the search has not seen the node.
-pub(crate) fn is_unseen(marks: &[Mark], node: u32) -> bool
-    requires { node < length marks.now }
-    ensures unseen { result ≡ true → slice_get marks.now node ≡ Some Mark.Unseen }
-    ensures seen { result ≡ false → IsSeen marks.now node }
-{
-    matches!(marks[node as usize], Mark::Unseen)
 }
 
 /// The most steps that may be left and are told from more.
@@ -145,21 +130,18 @@ pub(crate) fn enter<A: Allocator>(
     to: u32,
     is_open: bool,
     mark: Mark,
-    marks: &mut [Mark],
+    marks: &mut Marks<A>,
     next: &mut Vec<u32, A>,
-    touched: &mut Vec<u32, A>,
 ) -> Result<(), AllocError>
     requires within { to < length marks.old }
-    requires noted { IsNoted marks.old touched.old.items }
     ensures entered { OnOk result (IsEntered (IsTrue is_open) to mark marks.old next.old.items marks.new next.new.items) }
-    ensures noted { IsNoted marks.new touched.new.items }
+    ensures count { length marks.new ≡ length marks.old }
 {
-    touched.push(to)?;
     if !is_open {
-        marks[to as usize] = Mark::Shut;
+        marks.set(to, Mark::Shut)?;
         return Ok(());
     }
-    marks[to as usize] = mark;
+    marks.set(to, mark)?;
     next.push(to)?;
     Ok(())
 }

@@ -19,8 +19,8 @@
 //! than the limit, which is at first what the dives have found, and then grows by 2, 4, 8 and so on. Whatever lies on a
 //! walk within the limit is marked at its true distance, so an end that is reached is a nearest one; and if no end is
 //! reached and no node was left out because of the limit, there is no walk. In a round a start, or an end, that is known to
-//! be too far is passed over by one comparison. The marks are an array that is made once for the graph: each round removes
-//! the marks that it made, also if an allocation fails.
+//! be too far is passed over by one comparison. The marks (`Marks`) are made once for the graph: each search, and
+//! each round, begins by taking away what the one before has left, so a caller owes nothing but marks of as many nodes.
 //!
 //! A level is made side by side: first all steps to the east from the nodes of the level before, then all to the west, the
 //! north, the south, upwards and downwards. So a node is entered from the west if a shortest walk can come from there, and
@@ -36,15 +36,16 @@ mod ends;
 mod graph;
 mod level;
 mod mark;
-mod reset;
+mod marks;
 mod rounds;
 mod search;
 mod side;
 mod starts;
 
+pub use dives::near_walk;
 pub use graph::Graph;
 pub use leg_rules::Side;
 pub use mark::Mark;
-pub use reset::unseen_marks;
-pub use rounds::{far_walk, near_walk, shortest};
+pub use marks::Marks;
+pub use rounds::{far_walk, shortest};
 pub use side::opposite;

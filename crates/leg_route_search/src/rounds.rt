@@ -1,19 +1,16 @@
 //! A shortest walk, found in rounds of a growing limit.
 
-ghost use Rattle.std.specs.Prelude.{◌≡◌, ◌≤◌, ◌<◌, ◌+◌, ◌^◌, ◌↔◌, ℕ, [], true, false, length, All, Contains, IfOk, OnOk};
+ghost use Rattle.std.specs.Prelude.{◌≡◌, ◌≤◌, ◌<◌, ◌+◌, ◌^◌, ◌↔◌, ℕ, true, false, length, All, Contains, IfOk, OnOk};
 ghost use Rattle.std.specs.Option.{option_map};
-ghost use Rattle.leg_route_search.specs.Steps.Walks.{IsStep, IsShortestIfAny};
-ghost use Rattle.leg_route_search.specs.Steps.FreshMarks.{AreUnseen};
-ghost use Rattle.leg_route_search.specs.Steps.Marks.{IsNoted};
-ghost use Rattle.leg_route_search.specs.Steps.Dive.{IsOrigin, AreFar};
-ghost use Rattle.leg_route_search.specs.Steps.Search.{IsRound};
+ghost use Rattle.leg_route_search.specs.Steps.SideSteps.{IsStepIn};
+ghost use Rattle.leg_route_search.specs.Steps.Dive.{IsStartIn, AreFar};
+ghost use Rattle.leg_route_search.specs.Steps.Search.{IsRound, IsShortestIfAny};
 ghost use Rattle.leg_route_search.specs.Steps.Starts.{AreLeast};
 
 use crate::back::way_to;
-use crate::dives::walk_by_dives;
+use crate::dives::near_walk;
 use crate::graph::Graph;
-use crate::mark::Mark;
-use crate::reset::reset;
+use crate::marks::Marks;
 use crate::search::nearest_end;
 use std::alloc::{AllocError, Allocator};
 
@@ -22,7 +19,7 @@ const FIRST_GROWTH: u64 = 2;
 
 /// The nodes of a shortest open walk from a start to an end, or none where there is no such walk. Starts and ends may repeat
 /// and need not be open; an open node that is both is a walk of no steps. The starts are those nodes to which the graph says that
-/// no steps are left from a start. `marks` has one for each node. `touched` is room to work in.
+/// no steps are left from a start. `marks` has one for each node.
 ///
 /// Of the nearest ends it is the one with the least number. Each node before it is, of those from which a shortest walk can
 /// enter the next one, the first of west, east, south, north, below and above.
@@ -31,21 +28,17 @@ pub fn shortest<G: Graph, A: Allocator + Copy>(
     graph: &G,
     starts: &[u32],
     ends: &[u32],
-    marks: &mut [Mark],
-    touched: &mut Vec<u32, A>,
+    marks: &mut Marks<A>,
 ) -> Result<Option<Vec<u32, A>>, AllocError>
     requires count { length marks.old ≡ G.size_of graph.now }
     requires few { G.size_of graph.now < 2 ^ 32 }
-    requires unseen { AreUnseen marks.old }
-    requires untouched { touched.old.items ≡ [] }
     requires starts { All (λ a. a < G.size_of graph.now) starts.now }
     requires ends { All (λ a. a < G.size_of graph.now) ends.now }
-    requires at_start { (a : ℕ) → Contains starts.now a ↔ ((a < G.size_of graph.now) × (G.back_bound_of graph.now a ≡ 0)) }
+    requires at_start { (a : ℕ) → Contains starts.now a ↔ IsStartIn G.Graph graph.now a }
     requires at_end { All (λ a. G.bound_of graph.now a ≡ 0) ends.now }
-    ensures found { IfOk result (λ walk. IsShortestIfAny (G.OpenNode graph.now) (IsStep (G.IsBeside graph.now) (G.OpenStep graph.now))
+    ensures found { IfOk result (λ walk. IsShortestIfAny (G.OpenNode graph.now) (IsStepIn G.Graph graph.now)
         (Contains starts.now) (Contains ends.now) (option_map (λ nodes. nodes.items) walk)) }
-    ensures unseen { AreUnseen marks.new }
-    ensures untouched { touched.new.items ≡ [] }
+    ensures count { length marks.new ≡ length marks.old }
 {
     let mut limit = 0;
     let mut left_out = false;
@@ -57,7 +50,6 @@ pub fn shortest<G: Graph, A: Allocator + Copy>(
         &mut known,
         &mut limit,
         marks,
-        touched,
         &mut left_out,
     )?;
     if let Some(walk) = near {
@@ -66,7 +58,7 @@ pub fn shortest<G: Graph, A: Allocator + Copy>(
     if !left_out {
         return Ok(None);
     }
-    let walk = far_walk(alloc, graph, starts, ends, limit, marks, touched)?;
+    let walk = far_walk(alloc, graph, starts, ends, limit, marks)?;
     Ok(walk)
 }
 
@@ -77,48 +69,13 @@ fn steps_told<G: Graph, A: Allocator>(
     ends: &[u32],
 ) -> Result<Vec<u32, A>, AllocError>
     requires ends { All (λ a. a < G.size_of graph.now) ends.now }
-    ensures { IfOk result (λ known. AreFar (G.OpenNode graph.now) (IsStep (G.IsBeside graph.now) (G.OpenStep graph.now))
-        (IsOrigin (G.size_of graph.now) (G.back_bound_of graph.now)) ends.now known.items) }
+    ensures { IfOk result (λ known. AreFar (G.OpenNode graph.now) (IsStepIn G.Graph graph.now) (IsStartIn G.Graph graph.now) ends.now known.items) }
 {
     let mut known = Vec::with_capacity(alloc, ends.len())?;
     for end in ends {
         known.push(graph.back_bound(*end, u32::MAX))?;
     }
     Ok(known)
-}
-
-/// Looks for a shortest walk by dives, and leaves all nodes unseen. For each end `known` has a number of steps, of which an open walk
-/// from a start to it has no fewer: an end that is further by that than the nearest is not asked about, and of the others `known` has
-/// what the dives find out. How many steps are left from a node to the ends is not asked. Where no walk is found, `left_out` is whether
-/// there may be one, and `limit` is how many steps it then has at least: `far_walk` goes on from there. The walk is the one that
-/// `shortest` finds.
-pub fn near_walk<G: Graph, A: Allocator + Copy>(
-    alloc: A,
-    graph: &G,
-    ends: &[u32],
-    known: &mut [u32],
-    limit: &mut u64,
-    marks: &mut [Mark],
-    touched: &mut Vec<u32, A>,
-    left_out: &mut bool,
-) -> Result<Option<Vec<u32, A>>, AllocError>
-    requires count { length marks.old ≡ G.size_of graph.now }
-    requires unseen { AreUnseen marks.old }
-    requires untouched { touched.old.items ≡ [] }
-    requires ends { All (λ a. a < G.size_of graph.now) ends.now }
-    requires known { AreFar (G.OpenNode graph.now) (IsStep (G.IsBeside graph.now) (G.OpenStep graph.now))
-        (IsOrigin (G.size_of graph.now) (G.back_bound_of graph.now)) ends.now known.old }
-    ensures found { IfOk result (λ walk. IsRound (G.OpenNode graph.now) (IsStep (G.IsBeside graph.now) (G.OpenStep graph.now))
-        (IsOrigin (G.size_of graph.now) (G.back_bound_of graph.now)) (Contains ends.now) left_out.new (option_map (λ nodes. nodes.items) walk)) }
-    ensures known { AreFar (G.OpenNode graph.now) (IsStep (G.IsBeside graph.now) (G.OpenStep graph.now))
-        (IsOrigin (G.size_of graph.now) (G.back_bound_of graph.now)) ends.now known.new }
-    ensures unseen { AreUnseen marks.new }
-    ensures untouched { touched.new.items ≡ [] }
-    ensures count { length marks.new ≡ length marks.old }
-{
-    let walk = walk_by_dives(alloc, graph, ends, known, limit, marks, touched, left_out);
-    reset(marks, touched);
-    walk
 }
 
 /// The nodes of a shortest walk from a start to an end, or none where there is no such walk, found level by level in rounds of a
@@ -129,20 +86,16 @@ pub fn far_walk<G: Graph, A: Allocator + Copy>(
     starts: &[u32],
     ends: &[u32],
     first: u64,
-    marks: &mut [Mark],
-    touched: &mut Vec<u32, A>,
+    marks: &mut Marks<A>,
 ) -> Result<Option<Vec<u32, A>>, AllocError>
     requires count { length marks.old ≡ G.size_of graph.now }
     requires few { G.size_of graph.now < 2 ^ 32 }
-    requires unseen { AreUnseen marks.old }
-    requires untouched { touched.old.items ≡ [] }
     requires starts { All (λ a. a < G.size_of graph.now) starts.now }
     requires ends { All (λ a. a < G.size_of graph.now) ends.now }
     requires at_end { All (λ a. G.bound_of graph.now a ≡ 0) ends.now }
-    ensures found { IfOk result (λ walk. IsShortestIfAny (G.OpenNode graph.now) (IsStep (G.IsBeside graph.now) (G.OpenStep graph.now))
+    ensures found { IfOk result (λ walk. IsShortestIfAny (G.OpenNode graph.now) (IsStepIn G.Graph graph.now)
         (Contains starts.now) (Contains ends.now) (option_map (λ nodes. nodes.items) walk)) }
-    ensures unseen { AreUnseen marks.new }
-    ensures untouched { touched.new.items ≡ [] }
+    ensures count { length marks.new ≡ length marks.old }
 {
     let mut limit = first;
     let mut least = Vec::from_elem(alloc, 0, starts.len())?;
@@ -159,7 +112,6 @@ pub fn far_walk<G: Graph, A: Allocator + Copy>(
             ends,
             limit,
             marks,
-            touched,
             &mut left_out,
         )?;
         if let Some(walk) = found {
@@ -174,7 +126,7 @@ pub fn far_walk<G: Graph, A: Allocator + Copy>(
     }
 }
 
-/// Looks for a shortest walk within a limit, and leaves all nodes unseen.
+/// Looks for a shortest walk within a limit.
 fn one_round<G: Graph, A: Allocator + Copy>(
     alloc: A,
     graph: &G,
@@ -183,65 +135,25 @@ fn one_round<G: Graph, A: Allocator + Copy>(
     told: u64,
     ends: &[u32],
     limit: u64,
-    marks: &mut [Mark],
-    touched: &mut Vec<u32, A>,
+    marks: &mut Marks<A>,
     left_out: &mut bool,
 ) -> Result<Option<Vec<u32, A>>, AllocError>
     requires count { length marks.old ≡ G.size_of graph.now }
     requires few { G.size_of graph.now < 2 ^ 32 }
-    requires unseen { AreUnseen marks.old }
-    requires untouched { touched.old.items ≡ [] }
     requires starts { All (λ a. a < G.size_of graph.now) starts.now }
     requires ends { All (λ a. a < G.size_of graph.now) ends.now }
     requires at_end { All (λ a. G.bound_of graph.now a ≡ 0) ends.now }
     requires least { AreLeast (G.bound_of graph.now) starts.now told least.old }
     requires grows { told ≤ limit + 1 }
     requires not_left { left_out.old ≡ false }
-    ensures found { IfOk result (λ walk. IsRound (G.OpenNode graph.now) (IsStep (G.IsBeside graph.now) (G.OpenStep graph.now))
+    ensures found { IfOk result (λ walk. IsRound (G.OpenNode graph.now) (IsStepIn G.Graph graph.now)
         (Contains starts.now) (Contains ends.now) left_out.new (option_map (λ nodes. nodes.items) walk)) }
     ensures least { OnOk result (AreLeast (G.bound_of graph.now) starts.now (limit + 1) least.new) }
     ensures low { OnOk result (left_out.new ≡ true → limit < 2 ^ 33) }
-    ensures unseen { AreUnseen marks.new }
-    ensures untouched { touched.new.items ≡ [] }
-{
-    let walk = walk_within(
-        alloc, graph, starts, least, told, ends, limit, marks, touched, left_out,
-    );
-    reset(marks, touched);
-    walk
-}
-
-/// Looks for a shortest walk within a limit.
-fn walk_within<G: Graph, A: Allocator + Copy>(
-    alloc: A,
-    graph: &G,
-    starts: &[u32],
-    least: &mut [u32],
-    told: u64,
-    ends: &[u32],
-    limit: u64,
-    marks: &mut [Mark],
-    touched: &mut Vec<u32, A>,
-    left_out: &mut bool,
-) -> Result<Option<Vec<u32, A>>, AllocError>
-    requires count { length marks.old ≡ G.size_of graph.now }
-    requires few { G.size_of graph.now < 2 ^ 32 }
-    requires unseen { AreUnseen marks.old }
-    requires untouched { touched.old.items ≡ [] }
-    requires starts { All (λ a. a < G.size_of graph.now) starts.now }
-    requires ends { All (λ a. a < G.size_of graph.now) ends.now }
-    requires at_end { All (λ a. G.bound_of graph.now a ≡ 0) ends.now }
-    requires least { AreLeast (G.bound_of graph.now) starts.now told least.old }
-    requires grows { told ≤ limit + 1 }
-    requires not_left { left_out.old ≡ false }
-    ensures found { IfOk result (λ walk. IsRound (G.OpenNode graph.now) (IsStep (G.IsBeside graph.now) (G.OpenStep graph.now))
-        (Contains starts.now) (Contains ends.now) left_out.new (option_map (λ nodes. nodes.items) walk)) }
-    ensures least { OnOk result (AreLeast (G.bound_of graph.now) starts.now (limit + 1) least.new) }
-    ensures low { OnOk result (left_out.new ≡ true → limit < 2 ^ 33) }
-    ensures noted { IsNoted marks.new touched.new.items }
+    ensures count { length marks.new ≡ length marks.old }
 {
     let Some(end) = nearest_end(
-        alloc, graph, starts, least, told, ends, limit, marks, touched, left_out,
+        alloc, graph, starts, least, told, ends, limit, marks, left_out,
     )?
     else {
         return Ok(None);

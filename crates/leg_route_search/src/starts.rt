@@ -1,13 +1,13 @@
 //! The starts of a search, and how far each is from the ends.
 
 ghost use Rattle.std.specs.Prelude.{◌≡◌, ◌≤◌, ◌<◌, ◌+◌, ℕ, length, All, Contains, IfOk, OnOk};
-ghost use Rattle.leg_route_search.specs.Steps.Marks.{IsNoted};
 ghost use Rattle.leg_route_search.specs.Steps.Spread.{IsSpread};
 ghost use Rattle.leg_route_search.specs.Steps.Starts.{AreLeast};
 
 use crate::graph::Graph;
-use crate::level::{enter, is_unseen};
+use crate::level::enter;
 use crate::mark::Mark;
+use crate::marks::Marks;
 use std::alloc::{AllocError, Allocator};
 
 /// Marks the starts that are open and within the limit, and puts them into `next`. For each start `least` has how many steps are left
@@ -19,24 +19,22 @@ pub(crate) fn seed<G: Graph, A: Allocator>(
     least: &mut [u32],
     told: u64,
     limit: u64,
-    marks: &mut [Mark],
+    marks: &mut Marks<A>,
     next: &mut Vec<u32, A>,
-    touched: &mut Vec<u32, A>,
     left_out: &mut bool,
 ) -> Result<(), AllocError>
     requires count { length marks.old ≡ G.size_of graph.now }
     requires within { All (λ a. a < G.size_of graph.now) starts.now }
     requires least { AreLeast (G.bound_of graph.now) starts.now told least.old }
     requires grows { told ≤ limit + 1 }
-    requires noted { IsNoted marks.old touched.old.items }
     ensures spread { OnOk result (IsSpread (G.OpenNode graph.now) (λ _ b. Contains starts.now b) (G.bound_of graph.now) limit 0
         marks.old next.old.items left_out.old marks.new next.new.items left_out.new) }
     ensures least { OnOk result (AreLeast (G.bound_of graph.now) starts.now (limit + 1) least.new) }
-    ensures noted { IsNoted marks.new touched.new.items }
+    ensures count { length marks.new ≡ length marks.old }
 {
     for k in 0..starts.len() {
         least[k] = seed_one(
-            graph, starts[k], least[k], told, limit, marks, next, touched, left_out,
+            graph, starts[k], least[k], told, limit, marks, next, left_out,
         )?;
     }
     Ok(())
@@ -49,9 +47,8 @@ fn seed_one<G: Graph, A: Allocator>(
     least: u32,
     told: u64,
     limit: u64,
-    marks: &mut [Mark],
+    marks: &mut Marks<A>,
     next: &mut Vec<u32, A>,
-    touched: &mut Vec<u32, A>,
     left_out: &mut bool,
 ) -> Result<u32, AllocError>
     requires count { length marks.old ≡ G.size_of graph.now }
@@ -59,19 +56,18 @@ fn seed_one<G: Graph, A: Allocator>(
     requires least { least ≤ G.bound_of graph.now start }
     requires told { least < told → G.bound_of graph.now start < told }
     requires grows { told ≤ limit + 1 }
-    requires noted { IsNoted marks.old touched.old.items }
     ensures spread { OnOk result (IsSpread (G.OpenNode graph.now) (λ _ b. b ≡ start) (G.bound_of graph.now) limit 0
         marks.old next.old.items left_out.old marks.new next.new.items left_out.new) }
     ensures least { IfOk result (λ least. least ≤ G.bound_of graph.now start) }
     ensures told { IfOk result (λ least. least ≤ limit → G.bound_of graph.now start ≤ limit) }
-    ensures noted { IsNoted marks.new touched.new.items }
+    ensures count { length marks.new ≡ length marks.old }
 {
     let least = look_again(graph, start, least, told, limit);
     if u64::from(least) > limit {
         *left_out = true;
         return Ok(least);
     }
-    if !is_unseen(marks, start) {
+    if !marks.is_unseen(start) {
         return Ok(least);
     }
     let mark = Mark::Reached {
@@ -79,7 +75,7 @@ fn seed_one<G: Graph, A: Allocator>(
         from: start,
     };
     let is_open = graph.is_open_node(start);
-    enter(start, is_open, mark, marks, next, touched)?;
+    enter(start, is_open, mark, marks, next)?;
     Ok(least)
 }
 

@@ -21,8 +21,8 @@ nowhere = record {
   left = 0;
 }
 
-abbrev pub place_at : List Place → ℕ → Place
-place_at places a = slice_index_or places a nowhere
+abbrev pub numbered_place : List Place → ℕ → Place
+numbered_place places a = slice_index_or places a nowhere
 
 abbrev pub next_of : Place → Side → Option ℕ
 next_of p West = p.west
@@ -43,8 +43,8 @@ opens_to p Above = true
 -- The neighbour on this side is a place, at most one step nearer to the goal and one further from the start.
 abbrev pub IsLinked : List Place → Side → ℕ → ℕ → Type 0
 IsLinked places side a b =
-    (next_of (place_at places a) side ≡ Some b) × (b < length places) × ((place_at places a).left ≤ (place_at places b).left + 1)
-    × ((place_at places b).gone ≤ (place_at places a).gone + 1)
+    (next_of (numbered_place places a) side ≡ Some b) × (b < length places) × ((numbered_place places a).left ≤ (numbered_place places b).left + 1)
+    × ((numbered_place places b).gone ≤ (numbered_place places a).gone + 1)
 
 -- And the place is the neighbour's on the other side.
 pub record IsNext (places : List Place) (side : Side) (a b : ℕ) : Type 0 where
@@ -52,5 +52,5 @@ pub record IsNext (places : List Place) (side : Side) (a b : ℕ) : Type 0 where
   pub back : IsLinked places (opposite side) b a
 
 -- the same, seen from the neighbour
-pub turned : (places : List Place) (side : Side) (a b : ℕ) → IsNext places side a b → IsNext places (opposite side) b a
-turned places side a b next = record { there = next.back; back = across_twice (λ (s : Side). IsLinked places s a b) side next.there }
+pub next_both_ways : (places : List Place) (side : Side) (a b : ℕ) → IsNext places side a b → IsNext places (opposite side) b a
+next_both_ways places side a b next = record { there = next.back; back = across_twice (λ (s : Side). IsLinked places s a b) side next.there }

@@ -1,7 +1,7 @@
 //! A maze: a grid of layers with walls, which counts what it is asked.
 
 ghost use Rattle.std.specs.Prelude.{◌≡◌, ◌<◌, ◌↔◌, IsTrue, true, length};
-ghost use Rattle.test_route_search.specs.Maze.{next_of, opens_to, place_at, IsNext, IsLinked};
+ghost use Rattle.test_route_search.specs.Maze.{next_of, opens_to, numbered_place, IsNext, IsLinked};
 
 use leg_route_search::{Graph, Side, opposite};
 use std::alloc::{AllocError, Allocator};
@@ -309,19 +309,19 @@ fn number_of(side: Side) -> usize {
 }
 
 impl<A: Allocator + Copy> Graph for Maze<A> {
-    ghost use Rattle.test_route_search.specs.Maze.{opens_to, place_at, IsNext, turned};
+    ghost use Rattle.test_route_search.specs.Maze.{opens_to, numbered_place, IsNext, next_both_ways};
 
     ghost size_of = { λ m. length m.places.items };
 
     ghost IsBeside = { λ m side a b. IsNext m.places.items side a b };
 
-    ghost OpenNode = { λ m a. (place_at m.places.items a).is_open ≡ true };
+    ghost OpenNode = { λ m a. (numbered_place m.places.items a).is_open ≡ true };
 
-    ghost OpenStep = { λ m side a. opens_to (place_at m.places.items a) side ≡ true };
+    ghost OpenStep = { λ m side a. opens_to (numbered_place m.places.items a) side ≡ true };
 
-    ghost bound_of = { λ m a. (place_at m.places.items a).left };
+    ghost bound_of = { λ m a. (numbered_place m.places.items a).left };
 
-    ghost back_bound_of = { λ m a. (place_at m.places.items a).gone };
+    ghost back_bound_of = { λ m a. (numbered_place m.places.items a).gone };
 
     fn beside(&self, node: u32, side: Side) -> Option<u32> {
         let to = self.places[node as usize].next(side)?;
@@ -360,5 +360,5 @@ impl<A: Allocator + Copy> Graph for Maze<A> {
 
     ghost one_further = { λ m side a b beside. beside.there.3 };
 
-    ghost both_ways = { λ m side a b beside. turned m.places.items side a b beside };
+    ghost both_ways = { λ m side a b beside. next_both_ways m.places.items side a b beside };
 }

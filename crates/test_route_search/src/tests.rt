@@ -1,10 +1,10 @@
 //! Walks in mazes: which of the shortest is taken, what is asked, and how often.
 
 ghost use Rattle.std.specs.Prelude.{◌≡◌, ◌<◌, ◌^◌, ℕ, true, length, All, Contains};
-ghost use Rattle.test_route_search.specs.Maze.{place_at};
+ghost use Rattle.test_route_search.specs.Maze.{numbered_place};
 
 use crate::maze::{Known, Maze, Plan, Wall};
-use leg_route_search::{Mark, shortest, unseen_marks};
+use leg_route_search::{Marks, shortest};
 use std::alloc::Global;
 use std::process::Abort;
 
@@ -23,7 +23,7 @@ fn are_places(maze: &Maze<Global>, nodes: &[u32]) -> bool
 /// Whether no steps are left from any of these.
 fn are_goals(maze: &Maze<Global>, nodes: &[u32]) -> bool
     requires { All (λ a. a < length maze.now.places.items) nodes.now }
-    ensures { result ≡ true → All (λ a. (place_at maze.now.places.items a).left ≡ 0) nodes.now }
+    ensures { result ≡ true → All (λ a. (numbered_place maze.now.places.items a).left ≡ 0) nodes.now }
 {
     for node in nodes {
         if maze.places[*node as usize].left != 0 {
@@ -36,7 +36,7 @@ fn are_goals(maze: &Maze<Global>, nodes: &[u32]) -> bool
 /// Whether no steps lie between a start and any of these.
 fn are_starts(maze: &Maze<Global>, nodes: &[u32]) -> bool
     requires { All (λ a. a < length maze.now.places.items) nodes.now }
-    ensures { result ≡ true → All (λ a. (place_at maze.now.places.items a).gone ≡ 0) nodes.now }
+    ensures { result ≡ true → All (λ a. (numbered_place maze.now.places.items a).gone ≡ 0) nodes.now }
 {
     for node in nodes {
         if maze.places[*node as usize].gone != 0 {
@@ -49,7 +49,7 @@ fn are_starts(maze: &Maze<Global>, nodes: &[u32]) -> bool
 /// Whether each place of which no steps lie between it and a start is one of these.
 fn are_all_starts(maze: &Maze<Global>, nodes: &[u32]) -> bool
     requires { length maze.now.places.items < 2 ^ 32 }
-    ensures { result ≡ true → (a : ℕ) → a < length maze.now.places.items → (place_at maze.now.places.items a).gone ≡ 0 → Contains nodes.now a }
+    ensures { result ≡ true → (a : ℕ) → a < length maze.now.places.items → (numbered_place maze.now.places.items a).gone ≡ 0 → Contains nodes.now a }
 {
     for place in 0..maze.places.len() {
         if maze.places[place].gone == 0 && !nodes.contains(&(place as u32)) {
@@ -59,7 +59,25 @@ fn are_all_starts(maze: &Maze<Global>, nodes: &[u32]) -> bool
     true
 }
 
-/// A shortest walk, after which no place is seen.
+/// A shortest walk, found with marks that an earlier search may have left.
+fn walk_with(
+    rt: &impl Abort,
+    alloc: Global,
+    maze: &Maze<Global>,
+    starts: &[u32],
+    ends: &[u32],
+    marks: &mut Marks<Global>,
+) -> Option<Vec<u32>>
+    requires { length marks.old ≡ length maze.now.places.items }
+    ensures { length marks.new ≡ length marks.old }
+{
+    assert!(rt; maze.places.len() < 1 << 32);
+    assert!(rt; are_places(maze, starts) && are_places(maze, ends) && are_goals(maze, ends));
+    assert!(rt; are_starts(maze, starts) && are_all_starts(maze, starts));
+    shortest(alloc, maze, starts, ends, marks).expect(rt, "memory")
+}
+
+/// A shortest walk.
 fn walk(
     rt: &impl Abort,
     alloc: Global,
@@ -67,18 +85,8 @@ fn walk(
     starts: &[u32],
     ends: &[u32],
 ) -> Option<Vec<u32>> {
-    let count = maze.places.len();
-    assert!(rt; count < 1 << 32);
-    assert!(rt; are_places(maze, starts) && are_places(maze, ends) && are_goals(maze, ends));
-    assert!(rt; are_starts(maze, starts) && are_all_starts(maze, starts));
-    let mut marks = unseen_marks(alloc, count).expect(rt, "memory");
-    let mut touched = Vec::new(alloc);
-    let found = shortest(alloc, maze, starts, ends, &mut marks, &mut touched).expect(rt, "memory");
-    assert!(rt; touched.is_empty());
-    for mark in &marks {
-        assert!(rt; matches!(mark, Mark::Unseen));
-    }
-    found
+    let mut marks = Marks::new(alloc, maze.places.len()).expect(rt, "memory");
+    walk_with(rt, alloc, maze, starts, ends, &mut marks)
 }
 
 /// A search in a maze.
@@ -386,8 +394,8 @@ fn looks_seldom_at_starts(rt: HostRuntime) {
     assert!(rt; looks.0 < 4 && looks.1 < 3, "looked {looks:?} times");
 }
 
-/// The walk through walls that look random.
-fn walk_by_seed(rt: &impl Abort, alloc: Global, seed: u32, known: Known) -> Option<Vec<u32>> {
+/// A maze with walls that look random, in which a walk is looked for from place 38 to place 250.
+fn maze_by_seed(rt: &impl Abort, alloc: Global, seed: u32, known: Known) -> Maze<Global> {
     let plan = Plan {
         width: 12,
         height: 12,
@@ -399,6 +407,12 @@ fn walk_by_seed(rt: &impl Abort, alloc: Global, seed: u32, known: Known) -> Opti
     let mut maze = open_maze(rt, alloc, &plan);
     maze.scatter_walls(seed);
     maze.start_at(&[38]);
+    maze
+}
+
+/// The walk through these walls.
+fn walk_by_seed(rt: &impl Abort, alloc: Global, seed: u32, known: Known) -> Option<Vec<u32>> {
+    let maze = maze_by_seed(rt, alloc, seed, known);
     walk(rt, alloc, &maze, &[38], &[250])
 }
 
@@ -408,5 +422,16 @@ fn takes_the_same_walk_with_dives_and_without(rt: HostRuntime) {
         let dived = walk_by_seed(&rt, rt.alloc(), seed, Known::Both);
         let spread = walk_by_seed(&rt, rt.alloc(), seed, Known::Goal);
         assert!(rt; dived == spread, "at {seed}");
+    }
+}
+
+#[test]
+fn takes_the_same_walk_with_the_marks_of_an_earlier_search(rt: HostRuntime) {
+    for seed in 0..60 {
+        let maze = maze_by_seed(&rt, rt.alloc(), seed, Known::Goal);
+        let mut marks = Marks::new(rt.alloc(), maze.places.len()).expect(&rt, "memory");
+        let first = walk_with(&rt, rt.alloc(), &maze, &[38], &[250], &mut marks);
+        let second = walk_with(&rt, rt.alloc(), &maze, &[38], &[250], &mut marks);
+        assert!(rt; first == second, "at {seed}");
     }
 }

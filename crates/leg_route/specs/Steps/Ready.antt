@@ -6,7 +6,6 @@ use Rattle.leg_rules.specs.Metal.Flat.{FlatModel}
 use Rattle.leg_wire.specs.NetShapes.{AreNumbersOf}
 use Rattle.leg_wire.specs.Joins.{JoinsModel, AreJoinsOf, HasOnePieceMore}
 use Rattle.leg_route_search.specs.declared.mark.Mark.{Mark}
-use Rattle.leg_route_search.specs.Steps.FreshMarks.{AreUnseen}
 use Rattle.leg_route_grid.specs.declared.slot_access.SlotAccess.{SlotAccess}
 use Rattle.leg_route_grid.specs.Steps.Grid.{GridModel, slot_total}
 use Rattle.leg_route_grid.specs.Steps.AccessTable.{IsAccessTable}
@@ -22,17 +21,15 @@ abbrev pub HasSlotsOf : GridModel → List Shape → List SlotAccess → Type 0
 HasSlotsOf grid shapes slots = (flat : FlatModel) → flat.shapes ≡ shapes → IsAccessTable grid flat slots
 
 -- the grid is that of the design, each slot has what is open in the flat, each net of NETS has the numbers of its shapes,
--- no slot is marked, and what is kept of the joined part of a net, and of which of its pieces are joined, is right; the pieces that
+-- there is a mark for each slot, and what is kept of the joined part of a net, and of which of its pieces are joined, is right; the pieces that
 -- were given are in that part
 pub record IsReadyGround (design : DesignModel) (grid : GridModel) (flat : FlatModel) (slots : List SlotAccess) (lists : List (List ℕ))
-    (marks : List Mark) (touched : List ℕ) (part : PartModel) (joins : Option JoinsModel) : Type 0 where
+    (marks : List Mark) (part : PartModel) (joins : Option JoinsModel) : Type 0 where
   pub of_design : grid.design ≡ design
   pub told : HasSlotsOf grid flat.shapes slots
   pub within : length design.nets ≤ length flat.pieces
   pub numbers : AreNumbersByNet (length design.nets) flat lists
   pub count : length marks ≡ slot_total grid
-  pub unseen : AreUnseen marks
-  pub untouched : touched ≡ []
   pub part_is : IsJoinedPart grid flat part
   pub joins_are : IfSome joins (AreJoinsOf flat)
   pub given_are : IfSome joins (λ kept. AreGivenTo part kept)

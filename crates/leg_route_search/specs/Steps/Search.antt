@@ -45,6 +45,11 @@ abbrev pub IsFound : (ℕ → Type 0) → (ℕ → ℕ → Type 0) → (ℕ → 
 IsFound Open Step Start End marks left None = left ≡ false → NoWalk Open Step Start End
 IsFound Open Step Start End marks left (Some end) = IsNearestSoFar Open Step Start End marks end
 
+-- the nodes of a shortest walk, or none where there is no walk
+abbrev pub IsShortestIfAny : {Node : Type 0} → (Node → Type 0) → (Node → Node → Type 0) → (Node → Type 0) → (Node → Type 0) → Option (List Node) → Type 0
+IsShortestIfAny Open Step Start End None = NoWalk Open Step Start End
+IsShortestIfAny Open Step Start End (Some nodes) = IsShortest Open Step Start End nodes
+
 -- what a round finds: a shortest walk, or none, and then there is no walk unless a node was left out
 abbrev pub IsRound : (ℕ → Type 0) → (ℕ → ℕ → Type 0) → (ℕ → Type 0) → (ℕ → Type 0) → Bool → Option (List ℕ) → Type 0
 IsRound Open Step Start End left None = left ≡ false → NoWalk Open Step Start End

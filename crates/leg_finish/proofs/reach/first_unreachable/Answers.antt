@@ -1,6 +1,5 @@
 -- One net more, each of whose pieces can be reached, or the first piece that cannot be.
-use Rattle.std.proofs.Common.{◌≡◌, ◌++◌, length, take, drop, sym, subst, ap, ◌∙◌, arith}
-use Rattle.std.proofs.Math.Seq.{take-append_seam}
+use Rattle.std.proofs.Common.{sym, subst, ◌∙◌}
 use Rattle.std.proofs.lemmas.List.Elements.{All-get_or, AllWithin-more, AllWithin-upto, at_read}
 use Rattle.leg_finish.specs.declared.groups.OpenNet.{OpenNet}
 use Rattle.leg_finish.specs.Steps.OpenNets.{IsOpenWith}
@@ -24,16 +23,10 @@ loop-net-preserved g c =
     let i = c.loop-net.net-index in
     let is_reached = λ (o : OpenNet g.row.A.Denot). IsReached c.args.design.now c.args.flat.now o in
     let reached : is_reached net = rw (c.requires.of_design, c.in_default.is) at c.in_ok-found.ensures.found in
-    let new = c.unreachable_piece.new.marks in
-    let rest = drop (length new) c.loop-net.marks.items in
-    let long : length new ≡ c.loop-net.marks.len = c.unreachable_piece.auto.marks ∙ c.deref_mut.ensures.len in
-    let kept : take c.loop-net.marks.len (new ++ rest) ≡ new = ap (λ n. take n (new ++ rest)) (sym long) ∙ take-append_seam new rest in
-    rw kept (record {
+    record {
       reached = AllWithin-more is_reached nets 0 i c.loop-net.invariant.reached (at_read nets is_reached i net c.loop-net-test.true c.net-item.is reached);
-      count = omega (arith, long, c.loop-net.marks.ok.0, c.loop-net.invariant.count);
-      unseen = c.in_ok-found.ensures.unseen;
-      untouched = c.in_ok-found.ensures.untouched;
-    })
+      count = c.in_ok-found.ensures.count ∙ c.loop-net.invariant.count;
+    }
 
 pub returns-in-Some : goal.returns-in-Some
 returns-in-Some g c =

@@ -27,8 +27,7 @@ loop-piece-preserved-then-first-piece g c =
           (not_least flat net firsts c.requires.is_open.firsts (c.joined_both_ways.ensures flat net) (c.joined_onward.ensures flat net) design k
           (get_or firsts k 0) (slice_get-get_or firsts k 0 within)
           differ none);
-      unseen = c.loop-piece.invariant.unseen;
-      untouched = c.loop-piece.invariant.untouched;
+      count = c.loop-piece.invariant.count;
     }
 
 pub loop-piece-preserved : goal.loop-piece-preserved
@@ -44,8 +43,7 @@ loop-piece-preserved g c =
           below_more (λ j. ¬ IsUnreachable design flat net j) k c.loop-piece.invariant.none
           (λ is. true≢false (sym (c.in_ok-unreachable.ensures.unreachable.1 (subst (λ j. IsUnreachable design flat net j) (sym same) is))
           ∙ c.if-unreachable.false));
-      unseen = c.in_ok-unreachable.ensures.unseen;
-      untouched = c.in_ok-unreachable.ensures.untouched;
+      count = c.in_ok-unreachable.ensures.count ∙ c.loop-piece.invariant.count;
     }
 
 pub returns-then-unreachable-clause-found : goal.returns-then-unreachable-clause-found

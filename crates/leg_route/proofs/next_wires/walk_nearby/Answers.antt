@@ -4,7 +4,7 @@ use Rattle.std.proofs.lemmas.List.{length-map, nil_from_length}
 use Rattle.leg_route_grid.specs.Steps.Grid.{slot_total}
 use Rattle.leg_route_grid.specs.Steps.WalkBounds.{bound_at, IsNeighbourNear}
 use Rattle.leg_route_grid.specs.Steps.AccessToNet.{IsNodeAdmitted, IsStepAdmitted}
-use Rattle.leg_route_search.specs.Steps.Walks.{IsStep}
+use Rattle.leg_route_search.specs.Steps.SideSteps.{IsStep}
 use Rattle.leg_route_search.specs.Steps.Dive.{IsOrigin, AreFar}
 use Rattle.leg_route.specs.declared.end_slots.EndSlot.{EndSlot}
 use Rattle.leg_route.specs.Steps.EndSlots.{IsFarSlot}

@@ -2,15 +2,13 @@ use Rattle.std.proofs.Common.{ℕ, ◌<◌, ◌≤◌, ◌∷◌, [], get_or, ar
 use Rattle.std.proofs.lemmas.List.Elements.{All-nil}
 use Rattle.std.proofs.lemmas.List.{take_all}
 use Rattle.std.proofs.lemmas.Result.{IfOk-from_err}
-use Rattle.leg_route_search.specs.declared.mark.Mark.TheVariants.{Far}
 use Rattle.leg_rules.specs.declared.side.Side.{Side}
 use Rattle.leg_rules.specs.declared.side.Side.TheVariants.{West, East, South, North, Below, Above}
 use Rattle.leg_route_search.specs.Steps.Side.{opposite}
 use Rattle.leg_rules.specs.Route.Walk.Walk.{here}
-use Rattle.leg_route_search.specs.Steps.Walks.{IsStep}
-use Rattle.leg_route_search.specs.Steps.Dive.{IsOrigin, IsFarFrom}
-use Rattle.leg_route_search.proofs.Marks.{noted_push_mark}
-use Rattle.leg_route_search.proofs.WalksBack.{far_more, far_less, far_beyond, far_from_sides, back_push, known_far}
+use Rattle.leg_route_search.specs.Steps.SideSteps.{IsStepIn}
+use Rattle.leg_route_search.specs.Steps.Dive.{IsStartIn, IsFarFrom}
+use Rattle.leg_route_search.proofs.LastSteps.{far_more, far_less, far_beyond, far_from_sides, back_push, true_far}
 use Rattle.leg_route_search.proofs.dive.+dive.Goals as goal
 
 at_least_one : (n : ℕ) → 0 < n → 1 ≤ n
@@ -30,12 +28,11 @@ loop-side-preserved-in_default g t c =
     let graph = g.G.Graph in
     let at_graph = c.args.graph.now in
     let so_far = c.loop-side.invariant in record {
-      noted = c.in_ok-from.ensures.noted;
       known = c.in_ok-from.ensures.known;
       far = far_more (λ steps side. IsFarFrom (graph.IsBeside at_graph) (graph.OpenStep at_graph) (graph.OpenNode at_graph)
-          (IsOrigin (graph.size_of at_graph) (graph.back_bound_of at_graph)) steps c.args.node side)
+          (IsStartIn graph at_graph) steps c.args.node side)
           (λ steps fewer side. far_less (graph.IsBeside at_graph) (graph.OpenStep at_graph) (graph.OpenNode at_graph)
-          (IsOrigin (graph.size_of at_graph) (graph.back_bound_of at_graph)) steps fewer c.args.node side)
+          (IsStartIn graph at_graph) steps fewer c.args.node side)
           _ c.loop-side.side-index _ _ (omega arith) c.in_ok-from.ensures.fewer so_far.far (rw c.in_default.is at c.in_ok-from.ensures.past);
     }
 
@@ -47,8 +44,8 @@ returns-in-Some-walk-clause-found g t c =
     let back = rw c.in-Some-walk.is at c.in_ok-walk.ensures.found in
     let entered = rw c.in-Some.is at c.in_ok-from.ensures.entered in
     rw c.in_ok-push.ensures.items
-    (back_push {Open = graph.OpenNode here} {Step = IsStep (graph.IsBeside here) (graph.OpenStep here)}
-    {Start = IsOrigin (graph.size_of here) (graph.back_bound_of here)}
+    (back_push {Open = graph.OpenNode here} {Step = IsStepIn graph here}
+    {Start = IsStartIn graph here}
     c.args.left c.in-Some.from c.args.node c.in-Some-walk.nodes.items entered.1 (opposite side, entered.2) c.requires.is_open back)
 
 pub loop-side-preserved : goal.loop-side-preserved
@@ -58,15 +55,14 @@ loop-side-preserved g t c =
     let so_far = c.loop-side.invariant in
     let side : Side = get_or (West ∷ East ∷ South ∷ North ∷ Below ∷ Above ∷ []) c.loop-side.side-index West in
     let only = rw c.in-Some.is at c.in_ok-from.ensures.only in record {
-      noted = c.in_ok-walk.ensures.noted;
       known = c.in_ok-walk.ensures.known;
       far = far_more (λ steps side. IsFarFrom (graph.IsBeside at_graph) (graph.OpenStep at_graph) (graph.OpenNode at_graph)
-          (IsOrigin (graph.size_of at_graph) (graph.back_bound_of at_graph)) steps c.args.node side)
+          (IsStartIn graph at_graph) steps c.args.node side)
           (λ steps fewer side. far_less (graph.IsBeside at_graph) (graph.OpenStep at_graph) (graph.OpenNode at_graph)
-          (IsOrigin (graph.size_of at_graph) (graph.back_bound_of at_graph)) steps fewer c.args.node side)
+          (IsStartIn graph at_graph) steps fewer c.args.node side)
           _ c.loop-side.side-index _ _ (omega arith) (omega (arith, c.min-steps.ensures, c.in_ok-from.ensures.fewer)) so_far.far
           (far_beyond (graph.IsBeside at_graph) (graph.OpenStep at_graph) (graph.OpenNode at_graph)
-          (IsOrigin (graph.size_of at_graph) (graph.back_bound_of at_graph)) _ c.steps_left.result c.args.node c.in-Some.from side
+          (IsStartIn graph at_graph) _ c.steps_left.result c.args.node c.in-Some.from side
           (omega (arith, c.min-steps.ensures, c.one_more.ensures)) only c.steps_left.ensures);
     }
 
@@ -76,16 +72,11 @@ returns-clause-known g t c =
     let at_graph = c.args.graph.now in
     let so_far = c.loop-side.invariant in
     let sides = West ∷ East ∷ South ∷ North ∷ Below ∷ Above ∷ [] in
-    known_far c.loop-side.marks c.args.node c.loop-side.steps (omega (arith, c.requires.count, c.requires.within)) c.requires.is_open
+    rw c.in_ok-set.ensures.set
+    (true_far graph at_graph c.loop-side.marks c.args.node c.loop-side.steps c.requires.within c.requires.is_open
     (far_from_sides (graph.IsBeside at_graph) (graph.OpenStep at_graph) (graph.OpenNode at_graph)
-    (IsOrigin (graph.size_of at_graph) (graph.back_bound_of at_graph)) c.loop-side.steps c.args.node
-    (rw (take_all c.loop-side.side-index sides (omega arith)) at so_far.far) (c.is_start.ensures.other c.if-is_start.false)) so_far.known
-
-pub returns-clause-noted : goal.returns-clause-noted
-returns-clause-noted g t c =
-    rw c.in_ok-push-2.ensures.items
-    (noted_push_mark c.loop-side.marks c.loop-side.touched.items c.args.node (Far c.loop-side.steps) (omega (arith, c.requires.count, c.requires.within))
-    c.loop-side.invariant.noted)
+    (IsStartIn graph at_graph) c.loop-side.steps c.args.node
+    (rw (take_all c.loop-side.side-index sides (omega arith)) at so_far.far) (c.is_start.ensures.other c.if-is_start.false)) so_far.known)
 
 pub returns-in-Some-walk-clause-known : goal.returns-in-Some-walk-clause-known
 returns-in-Some-walk-clause-known g t c = c.in_ok-walk.ensures.known
@@ -96,26 +87,11 @@ returns-in_err-push-clause-known g t c = c.in_ok-walk.ensures.known
 pub returns-in_err-walk-clause-known : goal.returns-in_err-walk-clause-known
 returns-in_err-walk-clause-known g t c = c.in_err-walk.ensures.known
 
-pub returns-in-Some-walk-clause-noted : goal.returns-in-Some-walk-clause-noted
-returns-in-Some-walk-clause-noted g t c = c.in_ok-walk.ensures.noted
-
-pub returns-in_err-push-clause-noted : goal.returns-in_err-push-clause-noted
-returns-in_err-push-clause-noted g t c = c.in_ok-walk.ensures.noted
-
-pub returns-in_err-walk-clause-noted : goal.returns-in_err-walk-clause-noted
-returns-in_err-walk-clause-noted g t c = c.in_err-walk.ensures.noted
-
 pub returns-in_err-from-clause-known : goal.returns-in_err-from-clause-known
 returns-in_err-from-clause-known g t c = c.in_err-from.ensures.known
 
-pub returns-in_err-from-clause-noted : goal.returns-in_err-from-clause-noted
-returns-in_err-from-clause-noted g t c = c.in_err-from.ensures.noted
-
-pub returns-in_err-push-2-clause-noted : goal.returns-in_err-push-2-clause-noted
-returns-in_err-push-2-clause-noted g t c = rw c.in_err-push-2.ensures.items c.loop-side.invariant.noted
-
-pub returns-in_err-push-2-clause-known : goal.returns-in_err-push-2-clause-known
-returns-in_err-push-2-clause-known g t c = c.loop-side.invariant.known
+pub returns-in_err-set-clause-known : goal.returns-in_err-set-clause-known
+returns-in_err-set-clause-known g t c = rw c.in_err-set.ensures.same c.loop-side.invariant.known
 
 pub steps_left-requires-clause-within : goal.steps_left-requires-clause-within
 steps_left-requires-clause-within g t c = let entered = rw c.in-Some.is at c.in_ok-from.ensures.entered in entered.0
@@ -124,10 +100,9 @@ pub loop-side-init : goal.loop-side-init
 loop-side-init g t c =
     let graph = g.G.Graph in
     let at_graph = c.args.graph.now in record {
-      noted = c.requires.noted;
       known = c.requires.known;
       far = All-nil (λ side. IsFarFrom (graph.IsBeside at_graph) (graph.OpenStep at_graph) (graph.OpenNode at_graph)
-          (IsOrigin (graph.size_of at_graph) (graph.back_bound_of at_graph)) _ c.args.node side);
+          (IsStartIn graph at_graph) _ c.args.node side);
     }
 
 pub overflow_sub-left : goal.overflow_sub-left

@@ -1,18 +1,14 @@
 -- What is known of the sides so far, and that fewer steps are left each time.
 use Rattle.std.proofs.Common.{take, All}
-use Rattle.leg_route_search.specs.Steps.Walks.{IsStep}
-use Rattle.leg_route_search.specs.Steps.Marks.{IsNoted}
-use Rattle.leg_route_search.specs.Steps.Dive.{IsOrigin, IsFarFrom, AreLowerBounds}
+use Rattle.leg_route_search.specs.Steps.Dive.{IsStartIn, IsFarFrom, AreTrueMarks}
 use Rattle.leg_route_search.proofs.dive.+dive.Given as goal
 
 abbrev pub invariant-loop-side : goal.invariant-loop-side
 invariant-loop-side g l =
     let graph = g.G.Graph in record {
-      noted : IsNoted l.marks l.touched.items;
-      known : AreLowerBounds (graph.OpenNode l.graph) (IsStep (graph.IsBeside l.graph) (graph.OpenStep l.graph))
-          (IsOrigin (graph.size_of l.graph) (graph.back_bound_of l.graph)) l.marks;
+      known : AreTrueMarks graph l.graph l.marks;
       far : All (IsFarFrom (graph.IsBeside l.graph) (graph.OpenStep l.graph) (graph.OpenNode l.graph)
-          (IsOrigin (graph.size_of l.graph) (graph.back_bound_of l.graph)) l.steps l.node) (take l.side-index l.side-items);
+          (IsStartIn graph l.graph) l.steps l.node) (take l.side-index l.side-items);
     }
 
 abbrev pub decreases-dive : goal.decreases-dive

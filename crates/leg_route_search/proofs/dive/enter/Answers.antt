@@ -2,7 +2,7 @@ use Rattle.std.proofs.Common.{ℕ, ◌<◌, ◌∙◌, refl, subst, sym, arith}
 use Rattle.std.proofs.lemmas.Bool.{false≢true}
 use Rattle.leg_rules.specs.declared.side.Side.{Side}
 use Rattle.leg_route_search.specs.Steps.Side.{opposite}
-use Rattle.leg_route_search.proofs.WalksBack.{end_open, only_beyond}
+use Rattle.leg_route_search.proofs.LastSteps.{end_open, only_beyond}
 use Rattle.leg_route_search.proofs.dive.enter.Goals as goal
 
 some_left : (least left : ℕ) → least < left → 0 < left
@@ -34,20 +34,11 @@ returns-clause-only g c last beside =
 pub returns-clause-known : goal.returns-clause-known
 returns-clause-known g c = c.in_ok-is_open.ensures.known
 
-pub returns-clause-noted : goal.returns-clause-noted
-returns-clause-noted g c = c.in_ok-is_open.ensures.noted
-
 pub returns-then-not-branch-clause-known : goal.returns-then-not-branch-clause-known
 returns-then-not-branch-clause-known g c = c.in_ok-is_open.ensures.known
 
-pub returns-then-not-branch-clause-noted : goal.returns-then-not-branch-clause-noted
-returns-then-not-branch-clause-noted g c = c.in_ok-is_open.ensures.noted
-
 pub returns-in_err-is_open-clause-known : goal.returns-in_err-is_open-clause-known
 returns-in_err-is_open-clause-known g c = c.in_err-is_open.ensures.known
-
-pub returns-in_err-is_open-clause-noted : goal.returns-in_err-is_open-clause-noted
-returns-in_err-is_open-clause-noted g c = c.in_err-is_open.ensures.noted
 
 pub returns-clause-is_open : goal.returns-clause-is_open
 returns-clause-is_open g c = c.in_ok-is_open.ensures.is.0 c.if-not-branch.false

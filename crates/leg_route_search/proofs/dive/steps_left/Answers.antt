@@ -1,16 +1,13 @@
-use Rattle.std.proofs.Common.{refl, arith}
-use Rattle.leg_route_search.proofs.Marks.{mark_read}
-use Rattle.leg_route_search.proofs.WalksBack.{end_open, far_by_bound}
+use Rattle.std.proofs.Common.{refl}
+use Rattle.leg_route_search.proofs.LastSteps.{end_open, far_by_bound}
 use Rattle.leg_route_search.proofs.dive.steps_left.Goals as goal
 
 pub returns-in-Far : goal.returns-in-Far
-returns-in-Far g c =
-    c.requires.known.far c.args.node _ (mark_read c.args.marks.now c.args.node _ (omega (arith, c.requires.count, c.requires.within)) c.in-Far.is refl)
+returns-in-Far g c = c.requires.known.bounds.far c.args.node _ (record { is = rw c.in-Far.is at c.mark.ensures; seen = refl })
 
 pub returns-in-Shut : goal.returns-in-Shut
 returns-in-Shut g c from nodes start walk =
-    absurd (c.requires.known.shut c.args.node (mark_read c.args.marks.now c.args.node _ (omega (arith, c.requires.count, c.requires.within)) c.in-Shut.is refl)
-    (end_open walk))
+    absurd (c.requires.known.bounds.shut c.args.node (record { is = rw c.in-Shut.is at c.mark.ensures; seen = refl }) (end_open walk))
 
 pub returns-in-Unseen : goal.returns-in-Unseen
 returns-in-Unseen g c =

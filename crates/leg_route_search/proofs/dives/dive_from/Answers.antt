@@ -9,11 +9,5 @@ returns-clause-found g c = c.in_ok-walk.ensures.found
 pub returns-clause-known : goal.returns-clause-known
 returns-clause-known g c = c.in_ok-walk.ensures.known
 
-pub returns-clause-noted : goal.returns-clause-noted
-returns-clause-noted g c = c.in_ok-walk.ensures.noted
-
 pub returns-in_err-walk-clause-known : goal.returns-in_err-walk-clause-known
 returns-in_err-walk-clause-known g c = c.in_err-walk.ensures.known
-
-pub returns-in_err-walk-clause-noted : goal.returns-in_err-walk-clause-noted
-returns-in_err-walk-clause-noted g c = c.in_err-walk.ensures.noted

@@ -4,7 +4,7 @@ use Rattle.leg_route_search.proofs.LeastBounds.{now_set, rest_set, low_set}
 use Rattle.leg_route_search.proofs.dives.least_left.Goals as goal
 
 pub loop-k-preserved : goal.loop-k-preserved
-loop-k-preserved c =
+loop-k-preserved g c =
     let so_far = c.loop-k.invariant in
     let known = c.loop-k.known in
     let k = c.loop-k.k in
@@ -21,7 +21,7 @@ loop-k-preserved c =
     }
 
 pub returns-clause-now : goal.returns-clause-now
-returns-clause-now c = record { one_each = c.loop-k.invariant.one_each; each = λ k within. c.loop-k.invariant.done k (omega (arith, within)) }
+returns-clause-now g c = record { one_each = c.loop-k.invariant.one_each; each = λ k within. c.loop-k.invariant.done k (omega (arith, within)) }
 
 pub returns-clause-least : goal.returns-clause-least
-returns-clause-least c k within = c.loop-k.invariant.low k (omega (arith, within))
+returns-clause-least g c k within = c.loop-k.invariant.low k (omega (arith, within))

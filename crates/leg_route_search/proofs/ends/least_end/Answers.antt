@@ -27,7 +27,7 @@ least_all ends marks level i None all none = λ a there is. none a (rw (take_all
 least_all ends marks level i (Some end) all found = found
 
 pub loop-end-preserved : goal.loop-end-preserved
-loop-end-preserved c =
+loop-end-preserved g c =
     let ends = c.args.ends.now in
     let marks = c.args.marks.now in
     let i : ℕ = c.loop-end.end-index in
@@ -45,4 +45,4 @@ loop-end-preserved c =
     ]
 
 pub returns : goal.returns
-returns c = least_all c.args.ends.now c.args.marks.now c.args.level c.loop-end.end-index c.loop-end.least (omega arith) c.loop-end.invariant
+returns g c = least_all c.args.ends.now c.args.marks.now c.args.level c.loop-end.end-index c.loop-end.least (omega arith) c.loop-end.invariant

@@ -1,6 +1,6 @@
 use Rattle.std.proofs.Common.{◌≡◌, ℕ, refl, sym, arith}
 use Rattle.std.proofs.lemmas.Option.{same_Some}
-use Rattle.leg_route_search.specs.Steps.Walks.{IsStepTo}
+use Rattle.leg_route_search.specs.Steps.SideSteps.{IsStepTo}
 use Rattle.leg_route_search.proofs.Spread.{spread_entered}
 use Rattle.leg_route_search.proofs.level.follow_one.Goals as goal
 

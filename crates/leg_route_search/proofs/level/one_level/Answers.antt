@@ -1,7 +1,7 @@
 use Rattle.std.proofs.Common.{ℕ, Contains}
 use Rattle.leg_rules.specs.declared.side.Side.{Side}
 use Rattle.leg_rules.specs.declared.side.Side.TheVariants.{West, East, South, North, Below, Above}
-use Rattle.leg_route_search.specs.Steps.Walks.{IsStepTo}
+use Rattle.leg_route_search.specs.Steps.SideSteps.{IsStepTo}
 use Rattle.leg_route_search.proofs.Spread.{spread_then}
 use Rattle.leg_route_search.proofs.Sides.{Some2, Some3, Some4, Some5, spread_sides}
 use Rattle.leg_route_search.proofs.level.one_level.Goals as goal
@@ -41,42 +41,3 @@ follow-requires-5-clause-within g c = c.requires.within
 
 pub follow-requires-6-clause-within : goal.follow-requires-6-clause-within
 follow-requires-6-clause-within g c = c.requires.within
-
-pub follow-requires-clause-noted : goal.follow-requires-clause-noted
-follow-requires-clause-noted g c = c.requires.noted
-
-pub returns-in_err-follow-clause-noted : goal.returns-in_err-follow-clause-noted
-returns-in_err-follow-clause-noted g c = c.in_err-follow.ensures.noted
-
-pub follow-requires-2-clause-noted : goal.follow-requires-2-clause-noted
-follow-requires-2-clause-noted g c = c.in_ok-follow.ensures.noted
-
-pub returns-in_err-follow-2-clause-noted : goal.returns-in_err-follow-2-clause-noted
-returns-in_err-follow-2-clause-noted g c = c.in_err-follow-2.ensures.noted
-
-pub follow-requires-3-clause-noted : goal.follow-requires-3-clause-noted
-follow-requires-3-clause-noted g c = c.in_ok-follow-2.ensures.noted
-
-pub returns-in_err-follow-3-clause-noted : goal.returns-in_err-follow-3-clause-noted
-returns-in_err-follow-3-clause-noted g c = c.in_err-follow-3.ensures.noted
-
-pub follow-requires-4-clause-noted : goal.follow-requires-4-clause-noted
-follow-requires-4-clause-noted g c = c.in_ok-follow-3.ensures.noted
-
-pub returns-in_err-follow-4-clause-noted : goal.returns-in_err-follow-4-clause-noted
-returns-in_err-follow-4-clause-noted g c = c.in_err-follow-4.ensures.noted
-
-pub follow-requires-5-clause-noted : goal.follow-requires-5-clause-noted
-follow-requires-5-clause-noted g c = c.in_ok-follow-4.ensures.noted
-
-pub returns-in_err-follow-5-clause-noted : goal.returns-in_err-follow-5-clause-noted
-returns-in_err-follow-5-clause-noted g c = c.in_err-follow-5.ensures.noted
-
-pub follow-requires-6-clause-noted : goal.follow-requires-6-clause-noted
-follow-requires-6-clause-noted g c = c.in_ok-follow-5.ensures.noted
-
-pub returns-in_err-follow-6-clause-noted : goal.returns-in_err-follow-6-clause-noted
-returns-in_err-follow-6-clause-noted g c = c.in_err-follow-6.ensures.noted
-
-pub returns-clause-noted : goal.returns-clause-noted
-returns-clause-noted g c = c.in_ok-follow-6.ensures.noted

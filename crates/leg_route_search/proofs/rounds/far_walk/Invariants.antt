@@ -1,13 +1,11 @@
--- Between the rounds all nodes are unseen, and the limit grows by more each time.
-use Rattle.std.proofs.Common.{◌≡◌, ◌+◌, ◌-◌, ◌^◌, ◌<◌, ◌≤◌, []}
-use Rattle.leg_route_search.specs.Steps.FreshMarks.{AreUnseen}
+-- The marks stay those of the graph, and the limit grows by more each time.
+use Rattle.std.proofs.Common.{◌≡◌, ◌+◌, ◌-◌, ◌^◌, ◌<◌, ◌≤◌, length}
 use Rattle.leg_route_search.specs.Steps.Starts.{AreLeast}
 use Rattle.leg_route_search.proofs.rounds.far_walk.Given as goal
 
 abbrev pub invariant-rounds : goal.invariant-rounds
 invariant-rounds g l = record {
-  unseen : AreUnseen l.marks;
-  untouched : l.touched.items ≡ [];
+  count : length l.marks ≡ length l.fn.marks;
   least : AreLeast (g.G.Graph.bound_of l.graph) l.starts l.told l.least.items;
   told_grows : l.told ≤ l.limit + 1;
   grows : 0 < l.growth;

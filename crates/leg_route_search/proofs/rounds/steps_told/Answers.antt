@@ -1,5 +1,5 @@
 use Rattle.std.proofs.Common.{arith}
-use Rattle.leg_route_search.proofs.WalksBack.{far_each}
+use Rattle.leg_route_search.proofs.LastSteps.{far_each}
 use Rattle.leg_route_search.proofs.rounds.steps_told.Goals as goal
 
 pub returns : goal.returns

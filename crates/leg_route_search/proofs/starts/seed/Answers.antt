@@ -1,4 +1,4 @@
-use Rattle.std.proofs.Common.{ℕ, take, Contains, arith}
+use Rattle.std.proofs.Common.{ℕ, take, Contains, refl, ◌∙◌, arith}
 use Rattle.std.proofs.lemmas.List.{take_all}
 use Rattle.leg_route_search.proofs.Spread.{spread_none}
 use Rattle.leg_route_search.proofs.Sides.{spread_more_starts}
@@ -10,7 +10,7 @@ loop-k-init g c =
     let graph = g.G.Graph in
     let here = c.args.graph.now in
     let starts = c.args.starts.now in record {
-      noted = c.requires.noted;
+      count = refl;
       looked = looked_none (graph.bound_of here) starts c.args.told c.args.limit c.args.least.now c.requires.least;
       spread = spread_none (graph.OpenNode here) (graph.bound_of here) c.args.limit 0 (λ (_ b : ℕ). Contains (take 0 starts) b) c.args.marks.now
           c.args.next.now.items c.args.left_out.now
@@ -24,7 +24,7 @@ loop-k-preserved g c =
     let starts = c.args.starts.now in
     let k = c.loop-k.k in
     let so_far = c.loop-k.invariant in record {
-      noted = c.in_ok-least.ensures.noted;
+      count = c.in_ok-least.ensures.count ∙ so_far.count;
       looked = looked_more (graph.bound_of here) starts c.args.told c.args.limit k _ _ (omega arith) c.in_ok-least.ensures.least c.in_ok-least.ensures.told
           so_far.looked;
       spread = spread_more_starts (graph.OpenNode here) (graph.bound_of here) c.args.limit 0 starts k _ _ _ _ _ _ _ _ _

@@ -1,7 +1,7 @@
 -- No steps are left from the nodes so far.
 use Rattle.std.proofs.Common.{◌≡◌, take, All}
-use Rattle.test_route_search.specs.Maze.{place_at}
+use Rattle.test_route_search.specs.Maze.{numbered_place}
 use Rattle.test_route_search.proofs.tests.are_goals.Given as goal
 
 abbrev pub invariant-loop-node : goal.invariant-loop-node
-invariant-loop-node l = All (λ a. (place_at l.maze.places.items a).left ≡ 0) (take l.node-index l.nodes)
+invariant-loop-node l = All (λ a. (numbered_place l.maze.places.items a).left ≡ 0) (take l.node-index l.nodes)

@@ -14,9 +14,7 @@ returns-clause-ready g c =
         one_each = omega (arith, nets, c.in_ok-numbers.ensures.long);
         each = λ net low. rw (← c.shapes-2.ensures.is) (c.in_ok-numbers.ensures.each net (omega (arith, low, nets)));
       };
-      count = c.in_ok-marks.ensures.count ∙ c.size.ensures.is;
-      unseen = c.in_ok-marks.ensures.unseen;
-      untouched = c.new-2.ensures.items;
+      count = c.in_ok-marks.ensures ∙ c.size.ensures.is;
       part_is = part_none c.in_ok-grid.grid c.args.flat _ _ _ _ _ _ c.new-3.ensures.joined c.new-3.ensures.boxes c.new-3.ensures.slots c.new-3.ensures.hulls c.new-3.ensures.ends;
       joins_are = tt;
       given_are = tt;

@@ -1,5 +1,4 @@
-use Rattle.std.proofs.Common.{◌≡◌, ◌<◌, ◌++◌, [], length, take, drop, get_or, refl, sym, ap, ◌∙◌, arith}
-use Rattle.std.proofs.Math.Seq.{take-append_seam}
+use Rattle.std.proofs.Common.{◌≡◌, ◌<◌, [], length, get_or, refl, ◌∙◌, arith}
 use Rattle.std.proofs.lemmas.List.{get_or_read}
 use Rattle.leg_wire.specs.NetShapes.{AreNumbersOf}
 use Rattle.leg_wire.specs.PieceMarks.{AreMarks}
@@ -73,8 +72,6 @@ returns-then-not-is_one_apart-clause-ready g c =
       within = ready.within;
       numbers = ready.numbers;
       count = ready.count;
-      unseen = ready.unseen;
-      untouched = ready.untouched;
       part_is = ready.part_is;
       joins_are = c.in_ok-joins.ensures.of;
       given_are = given_kept part ground.joins c.in_ok-joins.joins ready.given_are (rw c.take-kept.ensures.value at c.in_ok-joins.ensures.given);
@@ -105,24 +102,17 @@ returns-clause-ready g c =
     let before : PartModel = record { net = ground.part.net; joined = ground.part.joined.items; boxes = ground.part.slots.boxes.items; slots = ground.part.slots.slots.items; hulls = ground.part.hulls.items; ends = ends_in ground.part.ends } in
     let now : PartModel = record { net = part.net; joined = joined; boxes = boxes; slots = slots; hulls = hulls; ends = ends } in
     let given : AreGivenTo before joins = given_kept before ground.joins joins ready.given_are (rw c.take-kept.ensures.value at c.in_ok-joins.ensures.given) in
-    let new = c.next_wires.new.marks in
-    let rest = drop (length new) ground.marks.items in
-    let long : length new ≡ ground.marks.len = c.next_wires.ensures.count ∙ c.deref_mut.ensures.len in
-    let kept : take ground.marks.len (new ++ rest) ≡ new = ap (λ n. take n (new ++ rest)) (sym long) ∙ take-append_seam new rest in
-    rw kept
-    (record {
+    record {
       of_design = ready.of_design;
       told = ready.told;
       within = ready.within;
       numbers = ready.numbers;
-      count = c.next_wires.ensures.count ∙ ap length c.deref_mut.ensures.value ∙ ready.count;
-      unseen = c.next_wires.ensures.unseen;
-      untouched = c.next_wires.ensures.untouched;
+      count = c.next_wires.ensures.count ∙ ready.count;
       part_is = rw of_net (part_of flat net (get_or lists net []) numbers joined (omega (arith, count)) ground.grid boxes slots hulls ends marks had);
       joins_are = joins_given flat joins c.take_joined.new.self come c.in_ok-joins.ensures.of c.in_ok-come.ensures.given;
       given_are = given_then ground.grid flat net before joins come ready.part_is c.in_ok-joins.ensures.net given (c.in_ok-come.ensures.joined flat c.in_ok-joins.ensures.of) joined c.take_joined.new.self now
           marks of_net refl c.in_ok-come.ensures.given;
-    })
+    }
 
 pub returns-clause-step : goal.returns-clause-step
 returns-clause-step g c =

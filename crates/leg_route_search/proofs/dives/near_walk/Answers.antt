@@ -1,22 +1,21 @@
 use Rattle.std.proofs.Common.{◌<◌}
 use Rattle.std.proofs.lemmas.List.Elements.{All-contains}
-use Rattle.leg_route_search.specs.Steps.Walks.{IsStep}
-use Rattle.leg_route_search.specs.Steps.Dive.{IsOrigin, IsFarNode, AreFar}
-use Rattle.leg_route_search.proofs.WalksBack.{end_open, all_far_now, least_far, shortest_from_back}
-use Rattle.leg_route_search.proofs.dives.walk_by_dives.Goals as goal
+use Rattle.leg_route_search.specs.Steps.SideSteps.{IsStepIn}
+use Rattle.leg_route_search.specs.Steps.Dive.{IsStartIn, IsFarNode, AreFar}
+use Rattle.leg_route_search.proofs.LastSteps.{end_open, all_far_now, least_far, shortest_from_back}
+use Rattle.leg_route_search.proofs.dives.near_walk.Goals as goal
 
 pub rounds-preserved : goal.rounds-preserved
 rounds-preserved g c =
     let graph = g.G.Graph in
     let here = c.args.graph.now in
     let told = c.least_left-left-in-rounds in
-    let Step = IsStep (graph.IsBeside here) (graph.OpenStep here) in
-    let Start = IsOrigin (graph.size_of here) (graph.back_bound_of here) in
+    let Step = IsStepIn graph here in
+    let Start = IsStartIn graph here in
     let of_ends : AreFar (graph.OpenNode here) Step Start c.args.ends.now told.new.known =
     all_far_now {Open = graph.OpenNode here} {Step = Step} {Start = Start} c.dive_from_ends.new.marks c.args.ends.now c.rounds.known told.new.known
-    c.dive_from_ends.ensures.known c.rounds.invariant.of_ends told.ensures.now in
+    c.dive_from_ends.ensures.known.bounds c.rounds.invariant.of_ends told.ensures.now in
     record {
-      noted = c.dive_from_ends.ensures.noted;
       known = c.dive_from_ends.ensures.known;
       far = least_far {Open = graph.OpenNode here} {Step = Step} {Start = Start} c.args.ends.now told.new.known told.result told.ensures.least of_ends;
       of_ends = of_ends;
@@ -27,10 +26,10 @@ returns-in-Some-clause-known g c =
     let graph = g.G.Graph in
     let here = c.args.graph.now in
     let told = c.least_left-left-in-rounds in
-    let Step = IsStep (graph.IsBeside here) (graph.OpenStep here) in
-    let Start = IsOrigin (graph.size_of here) (graph.back_bound_of here) in
+    let Step = IsStepIn graph here in
+    let Start = IsStartIn graph here in
     all_far_now {Open = graph.OpenNode here} {Step = Step} {Start = Start} c.dive_from_ends.new.marks c.args.ends.now c.rounds.known told.new.known
-    c.dive_from_ends.ensures.known c.rounds.invariant.of_ends told.ensures.now
+    c.dive_from_ends.ensures.known.bounds c.rounds.invariant.of_ends told.ensures.now
 
 pub dive_from_ends-requires-clause-within : goal.dive_from_ends-requires-clause-within
 dive_from_ends-requires-clause-within g c a there =
@@ -40,7 +39,7 @@ pub returns-in-Some-clause-found : goal.returns-in-Some-clause-found
 returns-in-Some-clause-found g c =
     let graph = g.G.Graph in
     let here = c.args.graph.now in
-    let far = IsFarNode (graph.OpenNode here) (IsStep (graph.IsBeside here) (graph.OpenStep here)) (IsOrigin (graph.size_of here) (graph.back_bound_of here))
+    let far = IsFarNode (graph.OpenNode here) (IsStepIn graph here) (IsStartIn graph here)
     c.rounds.left in
     let found = rw (c.in-Some.is, c.deref.ensures.value) at c.in_ok-walk.ensures.found in
     shortest_from_back c.rounds.left found.0 c.in-Some.nodes.items (c.in_ok-near.ensures found.0 found.1)

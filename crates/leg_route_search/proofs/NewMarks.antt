@@ -7,8 +7,7 @@ use Rattle.std.proofs.lemmas.Option.{get_or_from_slice_get, slice_get_within, sl
 use Rattle.std.proofs.Math.ListN.{length-set}
 use Rattle.leg_route_search.specs.declared.mark.Mark.{Mark}
 use Rattle.leg_route_search.specs.declared.mark.Mark.TheVariants.{Unseen, Shut, Reached, Far}
-use Rattle.leg_route_search.specs.Steps.FreshMarks.{AreUnseen}
-use Rattle.leg_route_search.specs.Steps.Marks.{is_unseen, IsMark, IsNoted}
+use Rattle.leg_route_search.specs.Steps.Marks.{is_unseen, AreUnseen, IsMark, IsNoted}
 
 -- what a list has where it was written
 pub slice_get-set_same : {X : Type 0} (xs : List X) (i : ℕ) (v : X) → i < length xs → slice_get (slice_set xs i v) i ≡ Some v
@@ -32,10 +31,6 @@ one_mark marks a m n one other = cc (one.is, other.is)
 pub no_mark : (marks : List Mark) (a : ℕ) (m : Mark) → slice_get marks a ≡ Some Unseen → IsMark marks a m → ⊥
 no_mark marks a m unseen is =
     let same : Unseen ≡ m = cc (unseen, is.is) in false≢true (sym (ap is_unseen same ∙ is.seen))
-
--- the mark that is read
-pub mark_read : (marks : List Mark) (a : ℕ) (m : Mark) → a < length marks → get_or marks a Unseen ≡ m → is_unseen m ≡ false → IsMark marks a m
-mark_read marks a m within read seen = record { is = slice_get-get_or marks a Unseen within ∙ ap Some read; seen = seen }
 
 -- nor has any where all are unseen
 pub unseen_no_mark : (marks : List Mark) (a : ℕ) (m : Mark) → AreUnseen marks → IsMark marks a m → ⊥
@@ -78,46 +73,46 @@ one_fewer marks to v unseen seen =
     rw (read, seen) at sums ∙ omega arith
 
 -- Where all are unseen, none need be noted.
-pub noted_none : (marks : List Mark) (touched : List ℕ) → AreUnseen marks → touched ≡ [] → IsNoted marks touched
-noted_none marks touched unseen empty = record {
-  noted = λ a m is. absurd (unseen_no_mark marks a m unseen is);
-  within = λ a there. absurd (let some : length touched ≡ 0 = ap length empty in omega (arith, some, there.1));
+pub noted_none : (marks : List Mark) (noted : List ℕ) → AreUnseen marks → noted ≡ [] → IsNoted marks noted
+noted_none marks noted unseen empty = record {
+  each = λ a m is. absurd (unseen_no_mark marks a m unseen is);
+  within = λ a there. absurd (let some : length noted ≡ 0 = ap length empty in omega (arith, some, there.1));
 }
 
 -- A node is noted, and gets a mark.
-pub noted_push_mark : (marks : List Mark) (touched : List ℕ) (to : ℕ) (v : Mark) → to < length marks → IsNoted marks touched
-    → IsNoted (slice_set marks to v) (touched ++ to ∷ [])
-noted_push_mark marks touched to v within so_far = record {
-  noted = λ a m is. elim (mark_cases marks to v within a m is) [
-    | inl old ↦ Contains-append_left touched (to ∷ []) a (so_far.noted a m old)
-    | inr new ↦ rw new.0 (Contains-push touched to)
+pub noted_push_mark : (marks : List Mark) (noted : List ℕ) (to : ℕ) (v : Mark) → to < length marks → IsNoted marks noted
+    → IsNoted (slice_set marks to v) (noted ++ to ∷ [])
+noted_push_mark marks noted to v within so_far = record {
+  each = λ a m is. elim (mark_cases marks to v within a m is) [
+    | inl old ↦ Contains-append_left noted (to ∷ []) a (so_far.each a m old)
+    | inr new ↦ rw new.0 (Contains-push noted to)
   ];
-  within = λ a there. elim (Contains-push_cases touched to a there) [
+  within = λ a there. elim (Contains-push_cases noted to a there) [
     | inl old ↦ omega (arith, so_far.within a old, length-set marks to v)
     | inr same ↦ omega (arith, same, length-set marks to v)
   ];
 }
 
 -- The last node that was noted is unseen again.
-pub noted_pop : (marks : List Mark) (touched : List ℕ) (node : ℕ) → IsNoted marks (touched ++ node ∷ []) → IsNoted (slice_set marks node Unseen) touched
-noted_pop marks touched node so_far =
-    let within : node < length marks = so_far.within node (Contains-push touched node) in record {
-      noted = λ a m is.
+pub noted_pop : (marks : List Mark) (noted : List ℕ) (node : ℕ) → IsNoted marks (noted ++ node ∷ []) → IsNoted (slice_set marks node Unseen) noted
+noted_pop marks noted node so_far =
+    let within : node < length marks = so_far.within node (Contains-push noted node) in record {
+      each = λ a m is.
           elim (mark_cases marks node Unseen within a m is) [
-            | inl old ↦ elim (Contains-push_cases touched node a (so_far.noted a m old)) [
+            | inl old ↦ elim (Contains-push_cases noted node a (so_far.each a m old)) [
               | inl there ↦ there
               | inr same ↦ absurd (no_mark (slice_set marks node Unseen) node m (slice_get-set_same marks node Unseen within) (rw (← same) at is))
             ]
             | inr new ↦ absurd (false≢true (sym (ap is_unseen new.1 ∙ is.seen)))
           ];
-      within = λ a there. omega (arith, so_far.within a (Contains-append_left touched (node ∷ []) a there), length-set marks node Unseen);
+      within = λ a there. omega (arith, so_far.within a (Contains-append_left noted (node ∷ []) a there), length-set marks node Unseen);
     }
 
 unseen_at : (marks : List Mark) → IsNoted marks [] → (a : ℕ) (m : Mark) → slice_get marks a ≡ Some m → m ≡ Unseen
 unseen_at marks so_far a Unseen is = refl
-unseen_at marks so_far a Shut is = absurd (omega (arith, (so_far.noted a Shut (record { is = is; seen = refl })).1))
-unseen_at marks so_far a (Reached level from) is = absurd (omega (arith, (so_far.noted a (Reached level from) (record { is = is; seen = refl })).1))
-unseen_at marks so_far a (Far steps) is = absurd (omega (arith, (so_far.noted a (Far steps) (record { is = is; seen = refl })).1))
+unseen_at marks so_far a Shut is = absurd (omega (arith, (so_far.each a Shut (record { is = is; seen = refl })).1))
+unseen_at marks so_far a (Reached level from) is = absurd (omega (arith, (so_far.each a (Reached level from) (record { is = is; seen = refl })).1))
+unseen_at marks so_far a (Far steps) is = absurd (omega (arith, (so_far.each a (Far steps) (record { is = is; seen = refl })).1))
 
 -- With no node noted all are unseen.
 pub unseen_from_noted : (marks : List Mark) → IsNoted marks [] → AreUnseen marks

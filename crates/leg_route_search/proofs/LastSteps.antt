@@ -1,18 +1,21 @@
 -- Walks by their last step, and what a dive learns from each.
-use Rattle.std.proofs.Common.{◌≡◌, ℕ, ◌+◌, ◌-◌, ◌<◌, ◌≤◌, min, List, [], ◌∷◌, ◌++◌, length, get_or, take, slice_set, All, Some, ◌⊎◌, ◌↔◌, inl, inr, refl, sym, subst, arith, length-append}
+use Rattle.std.proofs.Common.{◌≡◌, ℕ, ◌+◌, ◌-◌, ◌<◌, ◌≤◌, min, List, [], ◌∷◌, ◌++◌, length, get_or, take, slice_set, All, Some, ◌⊎◌, ◌↔◌, inl, inr, refl, sym, ◌∙◌, subst, arith, length-append}
+use Rattle.std.proofs.Math.ListN.{length-set}
 use Rattle.std.proofs.Math.Nat.{min-le_right}
 use Rattle.std.proofs.lemmas.List.Elements.{All-more, All-from_get_or}
 use Rattle.std.proofs.lemmas.Option.{same_Some}
 use Rattle.leg_route_search.specs.declared.mark.Mark.{Mark}
 use Rattle.leg_route_search.specs.declared.mark.Mark.TheVariants.{Shut, Far}
+use Rattle.leg_route_search.specs.declared.graph.Graph.{Ghosts}
 use Rattle.leg_rules.specs.declared.side.Side.{Side}
 use Rattle.leg_rules.specs.declared.side.Side.TheVariants.{West, East, South, North, Below, Above}
 use Rattle.leg_route_search.specs.Steps.Side.{opposite}
-use Rattle.leg_route_search.specs.Steps.Walks.{IsStep, IsStepTo}
+use Rattle.leg_route_search.specs.Steps.SideSteps.{IsStep, IsStepTo, IsStepIn}
 use Rattle.leg_rules.specs.Route.Walk.{Walk, IsShortest}
 use Rattle.leg_rules.specs.Route.Walk.Walk.{here, on}
-use Rattle.leg_route_search.specs.Steps.Dive.{IsOrigin, IsFarNode, AreFar, IsFarFrom, AreLowerBounds, IsKnownNow, AreKnownNow, IsWalkBack}
-use Rattle.leg_route_search.proofs.Marks.{mark_cases}
+use Rattle.leg_route_search.specs.Steps.Marks.{AreUnseen}
+use Rattle.leg_route_search.specs.Steps.Dive.{IsOrigin, IsStartIn, IsFarNode, AreFar, IsFarFrom, AreLowerBounds, AreTrueMarks, IsKnownNow, AreKnownNow, IsWalkFromStart}
+use Rattle.leg_route_search.proofs.NewMarks.{mark_cases, unseen_no_mark}
 
 module _ {Node : Type 0} {Open : Node → Type 0} {Step : Node → Node → Type 0} where
   -- the last node of a walk is open
@@ -89,7 +92,7 @@ far_more P less sides i steps fewer within low far more = All-more (P fewer) sid
 
 -- one node more on the way back from a start
 pub back_push : {Open : ℕ → Type 0} {Step : ℕ → ℕ → Type 0} {Start : ℕ → Type 0} (left from node : ℕ) (nodes : List ℕ) → 0 < left → Step from node → Open node
-    → IsWalkBack Open Step Start (left - 1) from nodes → IsWalkBack Open Step Start left node (nodes ++ node ∷ [])
+    → IsWalkFromStart Open Step Start (left - 1) from nodes → IsWalkFromStart Open Step Start left node (nodes ++ node ∷ [])
 back_push left from node nodes some step is_open back = record {
   from = back.from;
   start = back.start;
@@ -97,28 +100,51 @@ back_push left from node nodes some step is_open back = record {
   short = omega (arith, back.short, length-append nodes (node ∷ []));
 }
 
-module _ {Open : ℕ → Type 0} {Step : ℕ → ℕ → Type 0} {Start : ℕ → Type 0} where
-  -- a node that is shut
-  pub known_shut : (marks : List Mark) (to : ℕ) → to < length marks → (Open to → ⊥)
-      → AreLowerBounds Open Step Start marks → AreLowerBounds Open Step Start (slice_set marks to Shut)
-  known_shut marks to within closed k = record {
-    shut = λ a is. elim (mark_cases marks to Shut within a Shut is) [ inl old ↦ k.shut a old | inr new ↦ rw new.0 closed ];
-    is_open = λ a steps is. elim (mark_cases marks to Shut within a (Far steps) is)
-        [ inl old ↦ k.is_open a steps old | inr new ↦ absurd (shut_far steps new.1) ];
-    far = λ a steps is. elim (mark_cases marks to Shut within a (Far steps) is) [ inl old ↦ k.far a steps old | inr new ↦ absurd (shut_far steps new.1) ];
+module _ {Self : Type 0} (G : Ghosts Self) (graph : Self) where
+  -- no marks
+  pub true_unseen : (marks : List Mark) → length marks ≡ G.size_of graph → AreUnseen marks → AreTrueMarks G graph marks
+  true_unseen marks count unseen = record {
+    count = count;
+    bounds = record {
+      shut = λ a is. absurd (unseen_no_mark marks a Shut unseen is);
+      is_open = λ a steps is. absurd (unseen_no_mark marks a (Far steps) unseen is);
+      far = λ a steps is. absurd (unseen_no_mark marks a (Far steps) unseen is);
+    };
   }
 
+  -- a node that is shut
+  pub true_shut : (marks : List Mark) (to : ℕ) → to < G.size_of graph → (G.OpenNode graph to → ⊥) → AreTrueMarks G graph marks
+      → AreTrueMarks G graph (slice_set marks to Shut)
+  true_shut marks to within closed known =
+      let k = known.bounds in
+      let low : to < length marks = omega (arith, within, known.count) in record {
+        count = length-set marks to Shut ∙ known.count;
+        bounds = record {
+          shut = λ a is. elim (mark_cases marks to Shut low a Shut is) [ inl old ↦ k.shut a old | inr new ↦ rw new.0 closed ];
+          is_open = λ a steps is. elim (mark_cases marks to Shut low a (Far steps) is)
+              [ inl old ↦ k.is_open a steps old | inr new ↦ absurd (shut_far steps new.1) ];
+          far = λ a steps is. elim (mark_cases marks to Shut low a (Far steps) is) [ inl old ↦ k.far a steps old | inr new ↦ absurd (shut_far steps new.1) ];
+        };
+      }
+
   -- an open node, and how far it is at least
-  pub known_far : (marks : List Mark) (to steps : ℕ) → to < length marks → Open to → IsFarNode Open Step Start steps to
-      → AreLowerBounds Open Step Start marks → AreLowerBounds Open Step Start (slice_set marks to (Far steps))
-  known_far marks to steps within is_open far k = record {
-    shut = λ a is. elim (mark_cases marks to (Far steps) within a Shut is) [ inl old ↦ k.shut a old | inr new ↦ absurd (shut_far steps (sym new.1)) ];
-    is_open = λ a other is. elim (mark_cases marks to (Far steps) within a (Far other) is) [ inl old ↦ k.is_open a other old | inr new ↦ rw new.0 is_open ];
-    far = λ a other is. elim (mark_cases marks to (Far steps) within a (Far other) is) [
-      | inl old ↦ k.far a other old
-      | inr new ↦ rw (new.0, ← (same_steps steps other new.1)) far
-    ];
-  }
+  pub true_far : (marks : List Mark) (to steps : ℕ) → to < G.size_of graph → G.OpenNode graph to
+      → IsFarNode (G.OpenNode graph) (IsStepIn G graph) (IsStartIn G graph) steps to
+      → AreTrueMarks G graph marks → AreTrueMarks G graph (slice_set marks to (Far steps))
+  true_far marks to steps within is_open far known =
+      let k = known.bounds in
+      let low : to < length marks = omega (arith, within, known.count) in record {
+        count = length-set marks to (Far steps) ∙ known.count;
+        bounds = record {
+          shut = λ a is. elim (mark_cases marks to (Far steps) low a Shut is) [ inl old ↦ k.shut a old | inr new ↦ absurd (shut_far steps (sym new.1)) ];
+          is_open = λ a other is. elim (mark_cases marks to (Far steps) low a (Far other) is)
+              [ inl old ↦ k.is_open a other old | inr new ↦ rw new.0 is_open ];
+          far = λ a other is. elim (mark_cases marks to (Far steps) low a (Far other) is) [
+            | inl old ↦ k.far a other old
+            | inr new ↦ rw (new.0, ← (same_steps steps other new.1)) far
+          ];
+        };
+      }
 
 -- what is left at least to a node, as the bound says
 pub far_by_bound : {Open : ℕ → Type 0} {Step : ℕ → ℕ → Type 0} (size : ℕ) (bound : ℕ → ℕ) → ((a b : ℕ) → Step a b → bound b ≤ bound a + 1)
@@ -176,16 +202,16 @@ opposite_twice Above = refl
 
 module _ (IsBeside : Side → ℕ → ℕ → Type 0) (both_ways : (side : Side) (a b : ℕ) → IsBeside side a b → IsBeside (opposite side) b a) (side : Side)
     (node : ℕ) where
-  turned : (last : ℕ) → IsBeside (opposite side) last node → IsBeside side node last
-  turned last beside = subst (λ (s : Side). IsBeside s node last) (opposite_twice side) (both_ways (opposite side) last node beside)
+  seen_back : (last : ℕ) → IsBeside (opposite side) last node → IsBeside side node last
+  seen_back last beside = subst (λ (s : Side). IsBeside s node last) (opposite_twice side) (both_ways (opposite side) last node beside)
 
   -- the one node from which this one lies on the other side
   pub only_beyond : (from : ℕ) → ((to : ℕ) → (Some from ≡ Some to) ↔ IsBeside side node to) → (last : ℕ) → IsBeside (opposite side) last node → last ≡ from
-  only_beyond from is last beside = sym (same_Some from last ((is last).1 (turned last beside)))
+  only_beyond from is last beside = sym (same_Some from last ((is last).1 (seen_back last beside)))
 
 -- A walk of no more steps than each has at least is a shortest one.
 pub shortest_from_back : {Open : ℕ → Type 0} {Step : ℕ → ℕ → Type 0} {Start End : ℕ → Type 0} (left end : ℕ) (nodes : List ℕ)
-    → End end → ((b : ℕ) → End b → IsFarNode Open Step Start left b) → IsWalkBack Open Step Start left end nodes → IsShortest Open Step Start End nodes
+    → End end → ((b : ℕ) → End b → IsFarNode Open Step Start left b) → IsWalkFromStart Open Step Start left end nodes → IsShortest Open Step Start End nodes
 shortest_from_back left end nodes is_end far back = record {
   from = back.from;
   to = end;
