@@ -172,8 +172,7 @@ fn walk_within<A: Allocator + Copy>(
     part: &mut JoinedPart<A>,
     reach: &mut u32,
     limit: &mut u64,
-    marks: &mut [Mark],
-    touched: &mut Vec<u32, A>,
+    marks: &mut Marks<A>,
     left_out: &mut bool,
 ) -> Result<Option<Vec<u32, A>>, AllocError>
     requires told { IsAccessTable grid.now flat.now slots.now }
@@ -182,8 +181,6 @@ fn walk_within<A: Allocator + Copy>(
     requires part { IsPartOf grid.now flat.now net part.old.joined.items numbers.now
         part.old.slots.boxes.items part.old.slots.slots.items part.old.hulls.items (ends_in part.old.ends) }
     requires count { length marks.old ≡ slot_total grid.now }
-    requires unseen { AreUnseen marks.old }
-    requires untouched { touched.old.items ≡ [] }
     ensures answer { IfOk result (λ walk. IsNearAnswerAt grid.now flat.now net left_out.new (option_map (λ numbers. numbers.items) walk)) }
     ensures within { IfOk result (λ walk. IfSome walk (λ numbers. All (λ n. n < slot_total grid.now) numbers.items)) }
     ensures part { OnOk result (IsPartOf grid.now flat.now net part.new.joined.items numbers.now
@@ -191,8 +188,6 @@ fn walk_within<A: Allocator + Copy>(
     ensures same_net { part.new.net ≡ part.old.net }
     ensures same_joined { part.new.joined.items ≡ part.old.joined.items }
     ensures count { length marks.new ≡ slot_total grid.now }
-    ensures unseen { AreUnseen marks.new }
-    ensures untouched { touched.new.items ≡ [] }
 {
     grid_is_sound(grid);
     bring_near(
@@ -215,7 +210,6 @@ fn walk_within<A: Allocator + Copy>(
         &mut part.ends.near,
         limit,
         marks,
-        touched,
         left_out,
     )?;
     if part.ends.far.is_empty() {
@@ -249,8 +243,7 @@ fn walk_near<A: Allocator + Copy>(
     numbers: &[u32],
     part: &mut JoinedPart<A>,
     limit: &mut u64,
-    marks: &mut [Mark],
-    touched: &mut Vec<u32, A>,
+    marks: &mut Marks<A>,
     left_out: &mut bool,
 ) -> Result<Option<Vec<u32, A>>, AllocError>
     requires told { IsAccessTable grid.now flat.now slots.now }
@@ -259,8 +252,6 @@ fn walk_near<A: Allocator + Copy>(
     requires part { IsPartOf grid.now flat.now net part.old.joined.items numbers.now
         part.old.slots.boxes.items part.old.slots.slots.items part.old.hulls.items (ends_in part.old.ends) }
     requires count { length marks.old ≡ slot_total grid.now }
-    requires unseen { AreUnseen marks.old }
-    requires untouched { touched.old.items ≡ [] }
     ensures answer { IfOk result (λ walk. IsNearAnswerAt grid.now flat.now net left_out.new (option_map (λ numbers. numbers.items) walk)) }
     ensures within { IfOk result (λ walk. IfSome walk (λ numbers. All (λ n. n < slot_total grid.now) numbers.items)) }
     ensures part { OnOk result (IsPartOf grid.now flat.now net part.new.joined.items numbers.now
@@ -268,14 +259,11 @@ fn walk_near<A: Allocator + Copy>(
     ensures same_net { part.new.net ≡ part.old.net }
     ensures same_joined { part.new.joined.items ≡ part.old.joined.items }
     ensures count { length marks.new ≡ slot_total grid.now }
-    ensures unseen { AreUnseen marks.new }
-    ensures untouched { touched.new.items ≡ [] }
 {
     let mut reach = first_reach(&part.ends);
     'rounds: for _ in 0..ROUNDS {
         let walk = walk_within(
-            alloc, grid, flat, slots, net, numbers, part, &mut reach, limit, marks, touched,
-            left_out,
+            alloc, grid, flat, slots, net, numbers, part, &mut reach, limit, marks, left_out,
         )?;
         if !*left_out || part.ends.far.is_empty() {
             return Ok(walk);

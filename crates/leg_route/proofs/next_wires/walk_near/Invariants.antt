@@ -1,6 +1,5 @@
 -- What is known of the part and of the marks stays true.
-use Rattle.std.proofs.Common.{◌≡◌, [], length}
-use Rattle.leg_route_search.specs.Steps.FreshMarks.{AreUnseen}
+use Rattle.std.proofs.Common.{◌≡◌, length}
 use Rattle.leg_route_grid.specs.Steps.Grid.{slot_total}
 use Rattle.leg_route.specs.Steps.NetEnds.{ends_in}
 use Rattle.leg_route.specs.Steps.NetSlots.{IsPartOf}
@@ -12,6 +11,4 @@ invariant-rounds g l = record {
   same_net : l.part.net ≡ l.fn.part.net;
   same_joined : l.part.joined.items ≡ l.fn.part.joined.items;
   count : length l.marks ≡ slot_total l.grid;
-  unseen : AreUnseen l.marks;
-  untouched : l.touched.items ≡ [];
 }
