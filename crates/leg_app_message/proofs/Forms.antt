@@ -41,4 +41,5 @@ end_nowhere name words i past = rw (drop_all i words past, take_all i words past
 pub begins_with : (name : List ℕ) (words rest : List Word) (form d : Word) → rest ≡ from_form name words → 1 ≤ length rest → get_or rest 0 d ≡ form
     → BeginsWith name words form.text
 begins_with name words [] form d is some first = absurd (omega (arith, some))
-begins_with name words (word ∷ rest) form d is some first = (word.line, rest, sym is ∙ ap (λ w. w ∷ rest) (ap (λ w. record { text = w; line = word.line }) (ap (λ w. w.text) first)))
+begins_with name words (word ∷ rest) form d is some first =
+    (word.line, rest, sym is ∙ ap (λ w. w ∷ rest) (ap (λ w. record { text = w; line = word.line }) (ap (λ w. w.text) first)))

@@ -6,10 +6,10 @@ use Rattle.leg_lex.proofs.Shorter.{keyword_below, end_below}
 use Rattle.leg_lex.proofs.Statements.{statement_below}
 use Rattle.leg_lex.proofs.ReadPast.{past_below}
 use Rattle.leg_grammar.specs.Def.Guard.{when, unless}
-use Rattle.leg_grammar.specs.Def.Namespace.{KnownModel}
+use Rattle.leg_grammar.specs.Def.NetScope.{NetScopeModel}
 use Rattle.leg_design_records.specs.Records.{NetModel}
 use Rattle.leg_grammar.specs.Def.Net.{net_entry, section_word, nets_at}
-use Rattle.leg_grammar.specs.Def.Parts.{DesignParts, known, divider_form, bus_form, name_form, units_form, die_form, row_form, track_form, vias_form, components_form, pins_form, blockages_form, nets_form, special_form}
+use Rattle.leg_grammar.specs.Def.Parts.{DesignParts, net_scope, divider_form, bus_form, name_form, units_form, die_form, row_form, track_form, vias_form, components_form, pins_form, blockages_form, nets_form, special_form}
 use Rattle.leg_grammar.specs.Def.Skipped.{is_past_statement, is_past_section, past_def_section, past_def_extension, past_def_form}
 use Rattle.leg_grammar.specs.Def.Form.{header_form, def_form_at}
 use Rattle.leg_design_common.proofs.Sections.{section_below}
@@ -25,10 +25,10 @@ use Rattle.leg_design_nets.proofs.NetEntries.{net_entry_shortens}
 
 -- the entries of nets
 
-nets_below : (known : KnownModel) (special : Bool) (others : List NetModel) (words : Words) → Below (length words) (nets_at known special others words)
+nets_below : (scope : NetScopeModel) (special : Bool) (others : List NetModel) (words : Words) → Below (length words) (nets_at scope special others words)
 unfolding nets_at
-nets_below known special others words =
-    section_below (section_word special) (net_entry known special others) (net_entry_shortens known special others) [] words
+nets_below scope special others words =
+    section_below (section_word special) (net_entry scope special others) (net_entry_shortens scope special others) [] words
 
 -- what is read past
 
@@ -121,13 +121,13 @@ nets_form_below : (parts : DesignParts) (words : Words) → Below (length words)
 unfolding nets_form
 nets_form_below parts words =
     below_ask (unless parts.has.nets) (λ once.
-    below_bind (omega arith) (nets_below (known parts.design) false parts.design.special words) (λ nets l. below_some _ nets.1 l))
+    below_bind (omega arith) (nets_below (net_scope parts.design) false parts.design.special words) (λ nets l. below_some _ nets.1 l))
 
 special_form_below : (parts : DesignParts) (words : Words) → Below (length words) (special_form parts words)
 unfolding special_form
 special_form_below parts words =
     below_ask (unless parts.has.special) (λ once.
-    below_bind (omega arith) (nets_below (known parts.design) true parts.design.nets words) (λ special l. below_some _ special.1 l))
+    below_bind (omega arith) (nets_below (net_scope parts.design) true parts.design.nets words) (λ special l. below_some _ special.1 l))
 
 header_form_below : (parts : DesignParts) (words : Words) → Below (length words) (header_form parts words)
 unfolding header_form

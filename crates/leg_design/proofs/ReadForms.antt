@@ -10,7 +10,7 @@ use Rattle.leg_grammar.specs.Def.Guard.{when, unless}
 use Rattle.leg_grammar.specs.Def.Header.{word_after, design_name_at, units_at}
 use Rattle.leg_grammar.specs.Def.Net.{nets_at}
 use Rattle.leg_design_records.specs.Records.{TrackModel, PinModel, BlockageModel}
-use Rattle.leg_grammar.specs.Def.Parts.{DesignParts, no_parts, known, divider_form, bus_form, name_form, units_form, die_form, row_form, track_form, vias_form, components_form, pins_form, blockages_form, nets_form, special_form}
+use Rattle.leg_grammar.specs.Def.Parts.{DesignParts, no_parts, net_scope, divider_form, bus_form, name_form, units_form, die_form, row_form, track_form, vias_form, components_form, pins_form, blockages_form, nets_form, special_form}
 use Rattle.leg_grammar.specs.Def.Skipped.{past_def_form}
 use Rattle.leg_grammar.specs.Def.Form.{header_form, def_form_at}
 use Rattle.leg_design_records.specs.WellFormedParts.{IsKept, IsArea, AreComponents, IsRow, IsTrack, AreVias, ArePins, AreBlockages}
@@ -235,14 +235,14 @@ module _ (library : LibraryModel) (parts : DesignParts) (words : Words) (sound :
   unfolding nets_form
   nets_keep =
       gives_skip (unless parts.has.nets) (λ once.
-      gives_skip (nets_at (known parts.design) false parts.design.special words) (λ nets.
+      gives_skip (nets_at (net_scope parts.design) false parts.design.special words) (λ nets.
       gives_some _ (record { same = sound.same; header = sound.header; sections = sound.sections })))
 
   special_keep : Keeps (special_form parts words)
   unfolding special_form
   special_keep =
       gives_skip (unless parts.has.special) (λ once.
-      gives_skip (nets_at (known parts.design) true parts.design.nets words) (λ special.
+      gives_skip (nets_at (net_scope parts.design) true parts.design.nets words) (λ special.
       gives_some _ (record { same = sound.same; header = sound.header; sections = sound.sections })))
 
   header_keeps : Keeps (header_form parts words)

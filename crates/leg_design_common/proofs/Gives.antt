@@ -1,5 +1,5 @@
 -- What holds of all that a form may say: where places are found, and what each of many forms keeps.
-use Rattle.std.proofs.Common.{◌≡◌, ℕ, Bool, true, false, List, [], ◌∷◌, All, Option, None, Some, is_some, refl}
+use Rattle.std.proofs.Common.{◌≡◌, ℕ, Bool, true, false, List, [], ◌∷◌, All, Option, refl}
 use Rattle.std.proofs.lemmas.List.Elements.{All-head, All-tail}
 use Rattle.leg_lex.specs.Words.{Words, is_name, is_word, next_at, name_at, word_at}
 use Rattle.leg_lex.specs.Until.{over}
@@ -16,11 +16,6 @@ when_gives false = gives_none
 pub unless_gives : (test : Bool) → Gives (λ _. test ≡ false) (unless test)
 unless_gives true = gives_none
 unless_gives false = gives_some tt refl
-
--- nothing is found
-pub none_from : (o : Option ℕ) → is_some o ≡ false → o ≡ None
-none_from None none = refl
-none_from (Some n) none = absurd (let e : ⊥ = cc in e)
 
 -- What each element of a kind keeps, all elements keep.
 pub each_gives : {S X : Type 0} (P : S → Type 0) (Q : X → Type 0) (step : S → X → Option S) → ((made : S) (x : X) → P made → Q x → Gives P (step made x))

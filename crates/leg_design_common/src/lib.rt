@@ -3,10 +3,10 @@
 #![tactic(auto)]
 
 pub mod clause;
-mod known;
 pub mod layers;
+mod net_scope;
 pub mod placement;
 mod section;
 
-pub use known::Known;
+pub use net_scope::NetScope;
 pub use section::section_start;

@@ -5,6 +5,7 @@ use Rattle.std.proofs.lemmas.Bool.{or_parts}
 use Rattle.std.proofs.lemmas.Bool.Decides.{nat_tests}
 use Rattle.std.proofs.lemmas.List.{map_push, length_push}
 use Rattle.std.proofs.lemmas.List.Elements.{All-push, All-nil}
+use Rattle.leg_lemmas.proofs.Options.{none_is}
 use Rattle.leg_lex.specs.Words.{Words, is_keyword, is_name}
 use Rattle.leg_lex.specs.Statements.{at_most_one, clauses_of}
 use Rattle.leg_lex.specs.NameLookup.{place_of}
@@ -19,7 +20,7 @@ use Rattle.leg_grammar.specs.Def.Clause.{is_clause}
 use Rattle.leg_grammar.specs.Def.Component.{is_placement, placement_in, placement_in_any, placement_of, new_name_at, master_at, component_head, component_in, component_entry, components_at}
 use Rattle.leg_design_records.specs.Records.{component_names}
 use Rattle.leg_design_records.specs.WellFormedParts.{IsPlaced, IsComponent, AreComponents}
-use Rattle.leg_design_common.proofs.Gives.{Gives, gives_none, gives_some, gives_bind, gives_skip, gives_if, unless_gives, none_from, name_gives, section_gives}
+use Rattle.leg_design_common.proofs.Gives.{Gives, gives_none, gives_some, gives_bind, gives_skip, gives_if, unless_gives, name_gives, section_gives}
 use Rattle.leg_design_common.proofs.ReadPlacement.{placed_gives}
 
 placement_gives : (clause : Words) → Gives (λ said. IsPlaced said.0 said.1) (placement_in clause)
@@ -52,7 +53,7 @@ new_name_gives names words =
     gives_bind (name_gives words) (λ name named.
     gives_bind (unless_gives (is_keyword (codes "PIN") name.0 || is_some (place_of name.0 names))) (λ free new.
     let parts = or_parts (is_keyword (codes "PIN") name.0) (is_some (place_of name.0 names)) new in
-    gives_some name (record { named = named; no_pin = parts.0; new = none_from (place_of name.0 names) parts.1 })))
+    gives_some name (record { named = named; no_pin = parts.0; new = none_is (place_of name.0 names) parts.1 })))
 
 master_gives : (library : LibraryModel) (words : Words) → Gives (λ said. said.0 < length library.masters) (master_at library words)
 unfolding master_at

@@ -4,6 +4,7 @@ use Rattle.std.proofs.Common.{◌≡◌, ℕ, true, false, nat_le, List, [], ◌
 use Rattle.std.proofs.lemmas.Bool.Decides.{nat_tests}
 use Rattle.std.proofs.lemmas.List.{map_push, length_push}
 use Rattle.std.proofs.lemmas.List.Elements.{All-push, All-nil}
+use Rattle.leg_lemmas.proofs.Options.{none_is}
 use Rattle.leg_lex.specs.Words.{Words, is_at, keyword_at, mark_at, nothing_at, is_name, is_word}
 use Rattle.leg_lex.specs.Statements.{statement_at, clauses_of}
 use Rattle.leg_lex.specs.NameLookup.{place_of}
@@ -19,7 +20,7 @@ use Rattle.leg_grammar.specs.Def.Port.{empty_port, past_rules, layer_rect}
 use Rattle.leg_grammar.specs.Def.Pin.{pin_head, pin_in, pin_entry, pins_at}
 use Rattle.leg_design_records.specs.Records.{PortModel, PinModel, pin_names}
 use Rattle.leg_design_records.specs.WellFormedParts.{IsKept, IsNameIfAny, IsPort, IsPin, ArePins}
-use Rattle.leg_design_common.proofs.Gives.{Gives, gives_none, gives_some, gives_bind, gives_skip, gives_if, unless_gives, none_from, name_gives, word_gives, section_gives}
+use Rattle.leg_design_common.proofs.Gives.{Gives, gives_none, gives_some, gives_bind, gives_skip, gives_if, unless_gives, name_gives, word_gives, section_gives}
 use Rattle.leg_design_common.proofs.ReadPlacement.{rect_gives, placed_gives}
 use Rattle.leg_design_floorplan.proofs.ReadVias.{with_rect_metal}
 use Rattle.leg_design_records.specs.WellFormedParts.{IsArea, IsMetalShape}
@@ -142,7 +143,7 @@ module _ (library : LibraryModel) where
       gives_bind (name_gives dash.1) (λ name named.
       gives_bind (unless_gives (is_some (place_of name.0 names))) (λ new free.
       gives_skip (nothing_at name.1) (λ end.
-      gives_some name.0 (named, none_from (place_of name.0 names) free)))))
+      gives_some name.0 (named, none_is (place_of name.0 names) free)))))
 
   no_pin_clauses_are : ArePinClauses no_pin_clauses
   no_pin_clauses_are = record { net_name = tt; direction = tt; usage = tt; done = All-nil (IsPort library); last = tt }

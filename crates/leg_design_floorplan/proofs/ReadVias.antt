@@ -3,6 +3,7 @@ use Rattle.std.proofs.Common.{◌≡◌, ℕ, Bool, true, false, ◌||◌, if◌
 use Rattle.std.proofs.lemmas.Bool.{or_parts}
 use Rattle.std.proofs.lemmas.List.{map_push}
 use Rattle.std.proofs.lemmas.List.Elements.{All-push, All-nil}
+use Rattle.leg_lemmas.proofs.Options.{none_is}
 use Rattle.leg_lex.specs.Words.{Words, is_at, keyword_at, mark_at, nothing_at, is_name}
 use Rattle.leg_lex.specs.Statements.{statement_at, clauses_of}
 use Rattle.leg_lex.specs.NameLookup.{place_of}
@@ -18,7 +19,7 @@ use Rattle.leg_design_records.specs.Layers.{has_metal}
 use Rattle.leg_grammar.specs.Def.Via.{via_rect, is_other_via, via_clause, via_head, via_in, via_entry, vias_at}
 use Rattle.leg_design_records.specs.Records.{design_via_names}
 use Rattle.leg_design_records.specs.WellFormedParts.{IsArea, IsMetalShape, IsDesignVia, AreVias}
-use Rattle.leg_design_common.proofs.Gives.{Gives, gives_none, gives_some, gives_bind, gives_skip, gives_if, unless_gives, none_from, name_gives, section_gives}
+use Rattle.leg_design_common.proofs.Gives.{Gives, gives_none, gives_some, gives_bind, gives_skip, gives_if, unless_gives, name_gives, section_gives}
 use Rattle.leg_design_common.proofs.ReadPlacement.{rect_gives}
 
 module _ (library : LibraryModel) where
@@ -64,8 +65,8 @@ module _ (library : LibraryModel) where
       let parts = or_parts (is_some (place_of name.0 (via_names library))) (is_some (place_of name.0 (design_via_names vias))) is in
       gives_some name.0 (record {
         named = named;
-        new = none_from (place_of name.0 (via_names library)) parts.0;
-        here = none_from (place_of name.0 (design_via_names vias)) parts.1;
+        new = none_is (place_of name.0 (via_names library)) parts.0;
+        here = none_is (place_of name.0 (design_via_names vias)) parts.1;
       })))))
 
   pub via_in_gives : (vias : List ViaModel) (parts : List Words)

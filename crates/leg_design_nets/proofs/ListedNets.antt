@@ -209,13 +209,17 @@ begun_more before after nets ts t index none updates =
     (begun_last nets (ts ++ t ∷ []) ∙ ap (λ xs. xs ++ t ∷ []) (sym (begun_last nets ts)))
     (λ j other. append_other (lists_of nets) (ts ++ t ∷ []) ts j (λ e. other (e ∙ lists_length nets)))
 
+-- an index of terminals that got room, and then this number under this terminal
+pub record GetsNumber (before reserved after : Terminal → Option ℕ) (t : Terminal) (k : ℕ) : Type 0 where
+  pub same : (q : Terminal) → reserved q ≡ before q
+  pub updates : (q : Terminal) → after q ≡ cond (is_same_terminal t q) (Some k) (reserved q)
+
 pub index_begun : (before reserved after : Terminal → Option ℕ) (nets : List NetModel) (ts more : List Terminal) (t : Terminal) (k : ℕ)
-    → IsNameIndex before (lists_of nets ++ ts ∷ []) → ((q : Terminal) → reserved q ≡ before q)
-    → ((q : Terminal) → after q ≡ cond (is_same_terminal t q) (Some k) (reserved q)) → k ≡ length nets → more ≡ ts ++ t ∷ [] → is_listed t nets ≡ false
+    → IsNameIndex before (lists_of nets ++ ts ∷ []) → GetsNumber before reserved after t k → k ≡ length nets → more ≡ ts ++ t ∷ [] → is_listed t nets ≡ false
     → is_among t ts ≡ false → IsNameIndex after (lists_of nets ++ more ∷ [])
-index_begun before reserved after nets ts more t k index same updates last pushed not_before not_here =
+index_begun before reserved after nets ts more t k index gets last pushed not_before not_here =
     rw pushed (begun_more before after nets ts t index (nowhere before nets ts index t not_before not_here)
-    (λ q. updates q ∙ rw (last, same q) refl))
+    (λ q. gets.updates q ∙ rw (last, gets.same q) refl))
 
 -- the entry that was being read is whole
 append_nothing : (xs : List (List Terminal)) (j : ℕ) → get_or (xs ++ [] ∷ []) j [] ≡ get_or xs j []
@@ -243,18 +247,23 @@ pub index_finished : (number : Terminal → Option ℕ) (nets : List NetModel) �
 index_finished number nets index =
     index_same number (lists_of nets ++ [] ∷ []) (lists_of nets) index (λ j. sym (append_nothing (lists_of nets) j))
 
--- one more whole entry
+-- the entry that was being read, of which these are the terminals, is whole: a net with so many terminals and wires, behind the others
+pub record IsOneNetMore (nets after : List NetModel) (ts : List Terminal) (net : NetModel) (a b : ℕ) : Type 0 where
+  pub pushed : after ≡ nets ++ net ∷ []
+  pub whole : ts ≡ net.terminals
+  pub so_many : a ≡ length net.terminals
+  pub so_many_wires : b ≡ length net.wires
+
 pub kept_closed : (nets after : List NetModel) (ts none : List Terminal) (net : NetModel) (names more : List (List ℕ)) (number : Terminal → Option ℕ)
     (terminals wires a b : ℕ)
-    → IsIndexOf nets (lists_of nets ++ ts ∷ []) names number terminals wires → after ≡ nets ++ net ∷ [] → none ≡ [] → more ≡ names ++ net.name ∷ []
-    → ts ≡ net.terminals → a ≡ length net.terminals → b ≡ length net.wires
+    → IsIndexOf nets (lists_of nets ++ ts ∷ []) names number terminals wires → IsOneNetMore nets after ts net a b → none ≡ [] → more ≡ names ++ net.name ∷ []
     → IsIndexOf after (lists_of after ++ none ∷ []) more number (terminals + a) (wires + b)
-kept_closed nets after ts none net names more number terminals wires a b kept pushed nothing named the_same so_many so_many_wires =
-    rw (pushed, nothing) (record {
+kept_closed nets after ts none net names more number terminals wires a b kept one nothing named =
+    rw (one.pushed, nothing) (record {
       named = named ∙ ap (λ all. all ++ net.name ∷ []) kept.named ∙ sym (names_more nets net);
-      indexed = index_closed number nets net (rw (← the_same) kept.indexed);
-      listed = rw (so_many, kept.listed) (sym (terminals_more nets net));
-      wired = rw (so_many_wires, kept.wired) (sym (wires_more nets net));
+      indexed = index_closed number nets net (rw (← one.whole) kept.indexed);
+      listed = rw (one.so_many, kept.listed) (sym (terminals_more nets net));
+      wired = rw (one.so_many_wires, kept.wired) (sym (wires_more nets net));
     })
 
 pub kept_finished : (nets : List NetModel) (ts : List Terminal) (names : List (List ℕ)) (number : Terminal → Option ℕ) (terminals wires : ℕ)

@@ -1,18 +1,17 @@
 -- Pins of the design that no net lists, one after the other, and an entry with one more terminal.
-use Rattle.std.proofs.Common.{◌≡◌, ◌≢◌, ℕ, zero, suc, ◌+◌, ◌<◌, ◌≤◌, Bool, true, false, ◌||◌, if◌then◌else◌, cond, List, [], ◌∷◌, ◌++◌, length, get_or, take, drop, slice_get, slice_set, Option, None, Some, refl, sym, ap, ◌∙◌, arith, add-one, length-append}
+use Rattle.std.proofs.Common.{◌≡◌, ◌≢◌, ℕ, zero, suc, ◌+◌, ◌<◌, ◌≤◌, Bool, true, false, ◌||◌, if◌then◌else◌, List, [], ◌∷◌, ◌++◌, length, get_or, take, drop, slice_get, slice_set, Option, None, Some, refl, sym, ap, ◌∙◌, arith, add-one, length-append}
 use Rattle.std.proofs.lemmas.List.{drop_all, take_all, append-nil}
 use Rattle.std.proofs.lemmas.Option.{slice_get-get_or}
 use Rattle.leg_lex.proofs.EachElement.{at_front}
 use Rattle.leg_design_records.specs.declared.records.Terminal.{Terminal}
 use Rattle.leg_design_records.specs.declared.records.Terminal.TheVariants.{Pin}
 use Rattle.leg_lex.specs.NameLookup.{place_of}
-use Rattle.leg_design_records.specs.Terminals.{is_same_terminal}
 use Rattle.leg_design_records.specs.Records.{PinModel, NetModel, net_names, terminal_count, wire_count}
 use Rattle.leg_grammar.specs.Def.LonePins.{NetLists, is_listed, with_terminal, to_entry, to_named, with_lone_pin, with_lone_pins}
 use Rattle.leg_design_nets.specs.Steps.Index.{lists_of, IsIndexOf}
 use Rattle.leg_design_nets.proofs.TerminalLists.{index_more, index_by}
 use Rattle.leg_design_records.proofs.Blank.{blank}
-use Rattle.leg_design_nets.proofs.ListedNets.{not_listed}
+use Rattle.leg_design_nets.proofs.ListedNets.{not_listed, GetsNumber}
 
 pub pin_added : (before after : NetLists) (pins : List PinModel) (i : ℕ) (x : PinModel) → i < length pins → x ≡ get_or pins i x
     → after ≡ with_lone_pin before i x → with_lone_pins before i (drop i pins) ≡ with_lone_pins after (i + 1) (drop (i + 1) pins)
@@ -80,15 +79,15 @@ get_within (first ∷ nets) (suc k) net there = let rest = get_within nets k net
 pub kept_with : (nets after : List NetModel) (k : ℕ) (net : NetModel) (t : Terminal) (names : List (List ℕ)) (number reserved last : Terminal → Option ℕ)
     (terminals wires : ℕ)
     → IsIndexOf nets (lists_of nets) names number terminals wires → slice_get nets k ≡ Some net
-    → after ≡ slice_set nets k (record net { terminals = net.terminals ++ t ∷ [] }) → is_listed t nets ≡ false → ((q : Terminal) → reserved q ≡ number q)
-    → ((q : Terminal) → last q ≡ cond (is_same_terminal t q) (Some k) (reserved q)) → IsIndexOf after (lists_of after) names last (terminals + 1) wires
-kept_with nets after k net t names number reserved last terminals wires kept there put not same updates =
+    → after ≡ slice_set nets k (record net { terminals = net.terminals ++ t ∷ [] }) → is_listed t nets ≡ false → GetsNumber number reserved last t k
+    → IsIndexOf after (lists_of after) names last (terminals + 1) wires
+kept_with nets after k net t names number reserved last terminals wires kept there put not gets =
     let more : NetModel = record net { terminals = net.terminals ++ t ∷ [] } in
     rw put (record {
       named = kept.named ∙ sym (set_names nets k net more there refl);
       indexed =
           index_more number last (lists_of nets) (lists_of (slice_set nets k more)) k t kept.indexed (not_listed number nets kept.indexed t not)
-          (λ q. updates q ∙ rw (same q) refl)
+          (λ q. gets.updates q ∙ rw (gets.same q) refl)
           (set_here nets k more (get_within nets k net there) ∙ ap (λ xs. xs ++ t ∷ []) (sym (list_here nets k net there)))
           (λ j other. set_other nets k j more other);
       listed = rw (kept.listed) (sym (set_terminals nets k net more there (length-append net.terminals (t ∷ []))));
@@ -120,18 +119,17 @@ written_back nets after n whole size =
     rw (drop_all (length after) nets (omega (arith, size)), append-nil after) (take_all n after (omega (arith, whole, size)))
 
 pub kept_listed : (nets after : List NetModel) (n k : ℕ) (t : Terminal) (names : List (List ℕ)) (number reserved last : Terminal → Option ℕ)
-    (terminals more wires : ℕ)
+    (terminals wires : ℕ)
     → IsIndexOf nets (lists_of nets) names number terminals wires → n ≡ length nets → k < length nets → after ≡ with_terminal t k nets
-    → is_listed t nets ≡ false → ((q : Terminal) → reserved q ≡ number q) → ((q : Terminal) → last q ≡ cond (is_same_terminal t q) (Some k) (reserved q))
-    → more ≡ terminals + 1
-    → IsIndexOf (take n (after ++ drop (length after) nets)) (lists_of (take n (after ++ drop (length after) nets))) names last more wires
-kept_listed nets after n k t names number reserved last terminals more wires kept whole less put not same updates one =
+    → is_listed t nets ≡ false → GetsNumber number reserved last t k
+    → IsIndexOf (take n (after ++ drop (length after) nets)) (lists_of (take n (after ++ drop (length after) nets))) names last (terminals + 1) wires
+kept_listed nets after n k t names number reserved last terminals wires kept whole less put not gets =
     let net : NetModel = get_or nets k blank in
     let there : slice_get nets k ≡ Some net = slice_get-get_or nets k blank less in
     let is : after ≡ slice_set nets k (record net { terminals = net.terminals ++ t ∷ [] }) = put ∙ with_is nets k net t there in
     let size : length after ≡ length nets =
     ap (λ (xs : List NetModel). length xs) is ∙ set_length nets k (record net { terminals = net.terminals ++ t ∷ [] }) in
-    rw (written_back nets after n whole size, one) (kept_with nets after k net t names number reserved last terminals wires kept there is not same updates)
+    rw (written_back nets after n whole size) (kept_with nets after k net t names number reserved last terminals wires kept there is not gets)
 
 pub kept_unlisted : (nets after : List NetModel) (n : ℕ) (names : List (List ℕ)) (number reserved : Terminal → Option ℕ) (terminals wires : ℕ)
     → IsIndexOf nets (lists_of nets) names number terminals wires → n ≡ length nets → after ≡ nets → ((q : Terminal) → reserved q ≡ number q)

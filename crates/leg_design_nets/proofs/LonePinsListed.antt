@@ -9,7 +9,7 @@ use Rattle.leg_lex.proofs.NameLookup.{none_parts}
 use Rattle.leg_lex.proofs.GivesAll.{named_gives_within}
 use Rattle.leg_design_records.specs.declared.records.Terminal.{Terminal}
 use Rattle.leg_design_records.specs.declared.records.Terminal.TheVariants.{Pin}
-use Rattle.leg_grammar.specs.Def.Namespace.{KnownModel}
+use Rattle.leg_grammar.specs.Def.NetScope.{NetScopeModel}
 use Rattle.leg_design_records.specs.Records.{PinModel, NetModel, net_names}
 use Rattle.leg_grammar.specs.Def.LonePins.{NetLists, is_listed, to_entry, to_named, with_lone_pin, with_lone_pins}
 use Rattle.leg_design_records.specs.WellFormedNets.{IsInSomeNet}
@@ -33,9 +33,9 @@ in_some : (nets : List NetModel) (p : ℕ) (name : Option (List ℕ)) → Lists 
 in_some nets p None found = tt
 in_some nets p (Some name) found = λ named. (found.net, found.there, found.lists)
 
-module _ (known : KnownModel) where
+module _ (scope : NetScopeModel) where
   -- what is in some net stays in one
-  still_in_some : (lists next : NetLists) (p : ℕ) (name : Option (List ℕ)) → AreGrown known lists next → IsInSomeNet (both lists) p name
+  still_in_some : (lists next : NetLists) (p : ℕ) (name : Option (List ℕ)) → AreGrown scope lists next → IsInSomeNet (both lists) p name
       → IsInSomeNet (both next) p name
   still_in_some lists next p None grown before = tt
   still_in_some lists next p (Some name) grown before = λ named.
@@ -45,13 +45,13 @@ module _ (known : KnownModel) where
 
   -- one more pin: the entries may list more, and it is in some net
   record WithPin (lists next : NetLists) (p : ℕ) (name : Option (List ℕ)) : Type 0 where
-    grown : AreGrown known lists next
+    grown : AreGrown scope lists next
     lone : IsInSomeNet (both next) p name
 
-  itself : (lists : NetLists) → HasEntries known lists → AreGrown known lists lists
+  itself : (lists : NetLists) → HasEntries scope lists → AreGrown scope lists lists
   itself lists entries = record { entries = entries; names = refl; kept = λ u before. before }
 
-  module _ (lists : NetLists) (p : ℕ) (entries : HasEntries known lists) (is_pin : p < length known.pins) where
+  module _ (lists : NetLists) (p : ℕ) (entries : HasEntries scope lists) (is_pin : p < length scope.pins) where
     none_lists : is_listed (Pin p) lists.nets ≡ false → is_listed (Pin p) lists.special ≡ false → (a : NetModel) → Contains (both lists) a
         → Contains a.terminals (Pin p) → ⊥
     none_lists none other a in_a found =
@@ -63,11 +63,11 @@ module _ (known : KnownModel) where
           → WithPin lists (to_entry lists p k l) p (Some name)
       named_is name (Some k) l is other =
           let less = (named_gives_within (λ (n : NetModel). n.name) name lists.nets).given k is in
-          let listing = to_nets known lists p entries is_pin none k less in
+          let listing = to_nets scope lists p entries is_pin none k less in
           record { grown = listing.grown; lone = in_some _ p (Some name) listing.lists_it }
       named_is name None (Some l) is other =
           let less = (named_gives_within (λ (n : NetModel). n.name) name lists.special).given l other in
-          let listing = to_special known lists p entries is_pin none l less in
+          let listing = to_special scope lists p entries is_pin none l less in
           record { grown = listing.grown; lone = in_some _ p (Some name) listing.lists_it }
       named_is name None None is other = record {
         grown = itself lists entries;
@@ -96,32 +96,32 @@ module _ (known : KnownModel) where
 
   -- the pins before this number are in some net
   abbrev AreInNets : NetLists → ℕ → Type 0
-  AreInNets lists n = (q : ℕ) (pin : PinModel) → q < n → slice_get known.pins q ≡ Some pin → IsInSomeNet (both lists) q pin.net_name
+  AreInNets lists n = (q : ℕ) (pin : PinModel) → q < n → slice_get scope.pins q ≡ Some pin → IsInSomeNet (both lists) q pin.net_name
 
   -- the pins from this number on
   abbrev StandFrom : ℕ → List PinModel → Type 0
-  StandFrom p pins = (i : ℕ) (pin : PinModel) → slice_get pins i ≡ Some pin → slice_get known.pins (p + i) ≡ Some pin
+  StandFrom p pins = (i : ℕ) (pin : PinModel) → slice_get pins i ≡ Some pin → slice_get scope.pins (p + i) ≡ Some pin
 
   pub record HasAllPins (lists : NetLists) : Type 0 where
-    pub entries : HasEntries known lists
-    pub in_nets : AreInNets lists (length known.pins)
+    pub entries : HasEntries scope lists
+    pub in_nets : AreInNets lists (length scope.pins)
 
-  all_pins : (lists : NetLists) (p : ℕ) (pins : List PinModel) → HasEntries known lists → AreInNets lists p → StandFrom p pins
-      → p + length pins ≡ length known.pins → HasAllPins (with_lone_pins lists p pins)
+  all_pins : (lists : NetLists) (p : ℕ) (pins : List PinModel) → HasEntries scope lists → AreInNets lists p → StandFrom p pins
+      → p + length pins ≡ length scope.pins → HasAllPins (with_lone_pins lists p pins)
   unfolding with_lone_pins
   all_pins lists p [] entries before stand long =
       record { entries = entries; in_nets = λ q pin less at. before q pin (omega arith) at }
   all_pins lists p (pin ∷ pins) entries before stand long =
       let first : p + 0 ≡ p = omega arith in
-      let here : slice_get known.pins p ≡ Some pin = rw first at (stand 0 pin refl) in
-      let step = pin_is lists p entries (slice_get_within known.pins p pin here) pin in
+      let here : slice_get scope.pins p ≡ Some pin = rw first at (stand 0 pin refl) in
+      let step = pin_is lists p entries (slice_get_within scope.pins p pin here) pin in
       let next = with_lone_pin lists p pin in
       let later : StandFrom (suc p) pins = λ i x is.
       let same : p + suc i ≡ suc p + i = omega arith in
       rw (← same) (stand (suc i) x is) in
       let so_far : AreInNets next (suc p) = λ q x less at.
       ⊎_elim
-      (λ same. let found : slice_get known.pins p ≡ Some x = ap (slice_get known.pins) (sym same) ∙ at in
+      (λ same. let found : slice_get scope.pins p ≡ Some x = ap (slice_get scope.pins) (sym same) ∙ at in
       let alike : pin ≡ x = same_Some pin x (sym here ∙ found) in
       subst (λ (j : ℕ). IsInSomeNet (both next) j x.net_name) (sym same) (subst (λ (y : PinModel). IsInSomeNet (both next) p y.net_name) alike step.lone))
       (λ other. still_in_some lists next q x.net_name step.grown (before q x (omega arith) at))
@@ -129,6 +129,6 @@ module _ (known : KnownModel) where
       all_pins next (suc p) pins step.grown.entries so_far later (omega arith)
 
   -- All lone pins are listed where they should.
-  pub lone_pins_listed : (lists : NetLists) → HasEntries known lists → HasAllPins (with_lone_pins lists 0 known.pins)
+  pub lone_pins_listed : (lists : NetLists) → HasEntries scope lists → HasAllPins (with_lone_pins lists 0 scope.pins)
   lone_pins_listed lists entries =
-      all_pins lists 0 known.pins entries (λ q pin less at. absurd (omega arith)) (λ i pin is. let same : 0 + i ≡ i = omega arith in rw same is) (omega arith)
+      all_pins lists 0 scope.pins entries (λ q pin less at. absurd (omega arith)) (λ i pin is. let same : 0 + i ≡ i = omega arith in rw same is) (omega arith)

@@ -10,7 +10,7 @@ use Rattle.leg_lex.proofs.Until as loops
 use Rattle.leg_lex.proofs.Parts.{rest_is}
 use Rattle.leg_lex.proofs.Shorter.{mark_below, keyword_below, word_below}
 use Rattle.leg_grammar.specs.Def.Guard.{unless, is_over}
-use Rattle.leg_grammar.specs.Def.Namespace.{KnownModel}
+use Rattle.leg_grammar.specs.Def.NetScope.{NetScopeModel}
 use Rattle.leg_grammar.specs.Def.Wiring.{is_wiring}
 use Rattle.leg_grammar.specs.Def.Net.{NetParts, is_left_out, use_clause, wiring_clause, from_plus, past_clause, clause_at, net_clause}
 use Rattle.leg_design_common.proofs.Guards.{over_is, not_over_is}
@@ -75,11 +75,11 @@ use_clause_below parts clause =
     below_bind (omega arith) (keyword_below (codes "USE") clause) (λ start less.
     below_bind (omega arith) (word_below start.1) (λ word fewer. below_some (record parts { usage = Some word.0 }) word.1 fewer)))
 
-wiring_clause_below : (known : KnownModel) (special : Bool) (parts : NetParts) (clause : Words)
-    → Below (length clause) (wiring_clause known special parts clause)
+wiring_clause_below : (scope : NetScopeModel) (special : Bool) (parts : NetParts) (clause : Words)
+    → Below (length clause) (wiring_clause scope special parts clause)
 unfolding wiring_clause
-wiring_clause_below known special parts clause =
-    below_bind (omega arith) (wiring_below known special clause) (λ wires less.
+wiring_clause_below scope special parts clause =
+    below_bind (omega arith) (wiring_below scope special clause) (λ wires less.
     below_some (record parts { wires = parts.wires ++ wires.0 }) wires.1 less)
 
 past_clause_below : (parts : NetParts) (clause : Words) → Below (length clause) (past_clause parts clause)
@@ -88,34 +88,35 @@ past_clause_below parts clause =
     below_bind (omega arith) (word_below clause) (λ word less.
     below_some parts (from_plus word.1) (from_plus_no_longer word.1 (length clause) less))
 
-clause_below : (known : KnownModel) (special : Bool) (parts : NetParts) (clause : Words) → Below (length clause) (clause_at known special parts clause)
+clause_below : (scope : NetScopeModel) (special : Bool) (parts : NetParts) (clause : Words) → Below (length clause) (clause_at scope special parts clause)
 unfolding clause_at
-clause_below known special parts clause =
+clause_below scope special parts clause =
     below_if (is_at (codes "USE") clause) (use_clause_below parts clause)
-    (below_if (is_wiring special clause) (wiring_clause_below known special parts clause)
+    (below_if (is_wiring special clause) (wiring_clause_below scope special parts clause)
     (below_if (is_left_out special clause) (below_none (length clause)) (past_clause_below parts clause)))
 
-pub net_clause_shortens : (known : KnownModel) (special : Bool) → Shortens (net_clause known special)
+pub net_clause_shortens : (scope : NetScopeModel) (special : Bool) → Shortens (net_clause scope special)
 unfolding net_clause
-net_clause_shortens known special parts words =
+net_clause_shortens scope special parts words =
     below_bind (omega arith) (mark_below 43 words) (λ plus less.
-    below_more (omega arith) (clause_below known special parts plus.1))
+    below_more (omega arith) (clause_below scope special parts plus.1))
 
-pub net_clause_shorter : (known : KnownModel) (special : Bool) (parts more : NetParts) (words rest : Words)
-    → net_clause known special parts words ≡ Some (more, rest) → length rest < length words
-net_clause_shorter known special parts more words rest said = (net_clause_shortens known special parts words).left more rest said
+pub net_clause_shorter : (scope : NetScopeModel) (special : Bool) (parts more : NetParts) (words rest : Words)
+    → net_clause scope special parts words ≡ Some (more, rest) → length rest < length words
+net_clause_shorter scope special parts more words rest said = (net_clause_shortens scope special parts words).left more rest said
 
 -- the loop over the clauses
-pub clauses_on : (known : KnownModel) (special : Bool) (parts more : NetParts) (words rest : Words) → net_clause known special parts words ≡ Some (more, rest)
-    → (words ≡ [] → ⊥) → until is_over (net_clause known special) parts words ≡ until is_over (net_clause known special) more rest
-clauses_on known special parts more words rest said some =
-    loops.goes_on is_over (net_clause known special) (net_clause_shortens known special) parts more words rest (not_over_is words some) said
+pub clauses_on : (scope : NetScopeModel) (special : Bool) (parts more : NetParts) (words rest : Words)
+    → net_clause scope special parts words ≡ Some (more, rest)
+    → (words ≡ [] → ⊥) → until is_over (net_clause scope special) parts words ≡ until is_over (net_clause scope special) more rest
+clauses_on scope special parts more words rest said some =
+    loops.goes_on is_over (net_clause scope special) (net_clause_shortens scope special) parts more words rest (not_over_is words some) said
 
-pub clauses_end : (known : KnownModel) (special : Bool) (parts : NetParts) (words : Words) → words ≡ []
-    → until is_over (net_clause known special) parts words ≡ Some (parts, words)
-clauses_end known special parts words none = loops.ends is_over (net_clause known special) parts words (over_is words none)
+pub clauses_end : (scope : NetScopeModel) (special : Bool) (parts : NetParts) (words : Words) → words ≡ []
+    → until is_over (net_clause scope special) parts words ≡ Some (parts, words)
+clauses_end scope special parts words none = loops.ends is_over (net_clause scope special) parts words (over_is words none)
 
-pub clauses_fail : (known : KnownModel) (special : Bool) (parts : NetParts) (words : Words) → net_clause known special parts words ≡ None → (words ≡ [] → ⊥)
-    → until is_over (net_clause known special) parts words ≡ None
-clauses_fail known special parts words said some =
-    loops.fails is_over (net_clause known special) parts words (not_over_is words some) said
+pub clauses_fail : (scope : NetScopeModel) (special : Bool) (parts : NetParts) (words : Words) → net_clause scope special parts words ≡ None → (words ≡ [] → ⊥)
+    → until is_over (net_clause scope special) parts words ≡ None
+clauses_fail scope special parts words said some =
+    loops.fails is_over (net_clause scope special) parts words (not_over_is words some) said

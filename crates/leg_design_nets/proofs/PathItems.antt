@@ -12,7 +12,7 @@ use Rattle.leg_lib_records.specs.Measure.{rect_between}
 use Rattle.leg_grammar.specs.declared.path_item.Item.{Item}
 use Rattle.leg_grammar.specs.declared.path_item.Item.TheVariants.{ToPoint, AtVia, AtRect}
 use Rattle.leg_grammar.specs.Def.Guard.{unless}
-use Rattle.leg_grammar.specs.Def.Namespace.{KnownModel, via_named}
+use Rattle.leg_grammar.specs.Def.NetScope.{NetScopeModel, via_named}
 use Rattle.leg_grammar.specs.Def.PathItem.{count_at, coordinate_at, extension_in_point, point_item, first_point_at, rect_item, past_north, via_item, item_at, one_item, at_path_end}
 
 -- a word that isn't this keyword isn't this mark
@@ -88,29 +88,29 @@ past_north_below words =
     (below_more (omega arith) (keyword_below (codes "N") words))
     (below_some tt words (omega arith))
 
-via_item_below : (known : KnownModel) (words : Words) → Below (length words) (via_item known words)
+via_item_below : (scope : NetScopeModel) (words : Words) → Below (length words) (via_item scope words)
 unfolding via_item
-via_item_below known words =
+via_item_below scope words =
     below_bind (omega arith) (name_below words) (λ name less.
     below_ask (unless (is_wiring_word name.0)) (λ other.
-    below_ask (via_named known name.0) (λ via.
+    below_ask (via_named scope name.0) (λ via.
     below_bind (omega arith) (past_north_below name.1) (λ north last.
     below_some (AtVia via) north.1 last))))
 
-item_below : (known : KnownModel) (special : Bool) (words : Words) → Below (length words) (item_at known special words)
+item_below : (scope : NetScopeModel) (special : Bool) (words : Words) → Below (length words) (item_at scope special words)
 unfolding item_at
-item_below known special words =
+item_below scope special words =
     below_if (is_at (codes "(") words) (point_item_below words)
-    (below_if (is_at (codes "RECT") words && not special) (rect_item_below words) (via_item_below known words))
+    (below_if (is_at (codes "RECT") words && not special) (rect_item_below words) (via_item_below scope words))
 
-pub one_item_shortens : (known : KnownModel) (special : Bool) → Shortens (one_item known special)
+pub one_item_shortens : (scope : NetScopeModel) (special : Bool) → Shortens (one_item scope special)
 unfolding one_item
-one_item_shortens known special items words =
-    below_bind (omega arith) (item_below known special words) (λ item less. below_some (items ++ item.0 ∷ []) item.1 less)
+one_item_shortens scope special items words =
+    below_bind (omega arith) (item_below scope special words) (λ item less. below_some (items ++ item.0 ∷ []) item.1 less)
 
-pub one_item_shorter : (known : KnownModel) (special : Bool) (items next : List Item) (words rest : Words)
-    → one_item known special items words ≡ Some (next, rest) → length rest < length words
-one_item_shorter known special items next words rest said = (one_item_shortens known special items words).left next rest said
+pub one_item_shorter : (scope : NetScopeModel) (special : Bool) (items next : List Item) (words rest : Words)
+    → one_item scope special items words ≡ Some (next, rest) → length rest < length words
+one_item_shorter scope special items next words rest said = (one_item_shortens scope special items words).left next rest said
 
 -- in small letters, only the plus is the plus
 small_plus : (b : ℕ) → to_ascii_lowercase b ≡ 43 → b ≡ 43

@@ -1,12 +1,13 @@
 -- Where pins of macros stand by their names, macro by macro.
-use Rattle.std.proofs.Common.{◌≡◌, ℕ, zero, suc, ◌+◌, ◌<◌, ◌≤◌, Bool, true, false, List, [], ◌∷◌, ◌++◌, length, length-append, get_or, set, length-set, take, map, slice_get, is_some, Option, None, Some, option_map, Bor, refl, sym, ap, ◌∙◌, inl, inr, ◌⊎◌, ⊎_elim, arith}
+use Rattle.std.proofs.Common.{◌≡◌, ℕ, suc, ◌+◌, ◌<◌, ◌≤◌, Bool, true, false, List, [], ◌∷◌, ◌++◌, length, length-append, get_or, set, length-set, take, map, slice_get, is_some, Option, None, Some, option_map, Bor, refl, sym, ap, ◌∙◌, inl, inr, ◌⊎◌, ⊎_elim, arith}
 use Rattle.std.specs.HashMap as hash
 use Rattle.std.specs.HashMap.{HashMap}
 use Rattle.std.specs.Str.{bytes_eq}
 use Rattle.std.proofs.lemmas.Bool.{cases_eq, cases_lt, false≢true}
 use Rattle.std.proofs.lemmas.List.{length-take, map-append, take_more}
 use Rattle.std.proofs.lemmas.Option.{slice_get_past}
-use Rattle.leg_lemmas.proofs.Places.{in_first, get_last}
+use Rattle.leg_lemmas.proofs.Places.{in_first, get_last, last_or_before}
+use Rattle.leg_lemmas.proofs.Options.{none_is}
 use Rattle.leg_lex.specs.Words.{◌>>=◌}
 use Rattle.leg_lex.specs.NameLookup.{place_of}
 use Rattle.leg_lex.proofs.NameLookup.{same_name, index_push}
@@ -25,18 +26,6 @@ taken_length xs i less = let long = length-take i xs in omega (arith, long, less
 -- an element of a list with one more behind it
 past_end : {X : Type 0} (xs : List X) (y : X) (m : ℕ) → length xs < m → slice_get (xs ++ y ∷ []) m ≡ None
 past_end xs y m more = slice_get_past (xs ++ y ∷ []) m (let long = length-append xs (y ∷ []) in omega (arith, long, more))
-
--- the last of them, or one of the others
-last_or_before : {X : Type 0} (xs : List X) (y : X) (m : ℕ) (x : X) → slice_get (xs ++ y ∷ []) m ≡ Some x
-    → ((m ≡ length xs) × (x ≡ y)) ⊎ (slice_get xs m ≡ Some x)
-last_or_before [] y zero x is = inl (refl, let same : x ≡ y = cc in same)
-last_or_before [] y (suc m) x is = absurd (let e : ⊥ = cc in e)
-last_or_before (first ∷ xs) y zero x is = inr is
-last_or_before (first ∷ xs) y (suc m) x is =
-    ⊎_elim
-    (λ (last : (m ≡ length xs) × (x ≡ y)). inl (ap suc last.0, last.1))
-    (λ before. inr before)
-    (last_or_before xs y m x is)
 
 -- the names of pins
 abbrev pub pin_names : List MasterPinModel → List (List ℕ)
@@ -96,14 +85,10 @@ module _ {S : Type 0} where
       → (q : List ℕ) → place_in_table after q ≡ place_of q (pin_names (take (i + 1) pins))
   places_new name table after pins i x less is named places new updates =
       let none : place_of name.now (pin_names (take i pins)) ≡ None =
-      is_none (place_of name.now (pin_names (take i pins))) (ap (λ (o : Option ℕ). is_some o) (sym (places name.now)) ∙ new) in
+      none_is (place_of name.now (pin_names (take i pins))) (ap (λ (o : Option ℕ). is_some o) (sym (places name.now)) ∙ new) in
       let long : i ≡ length (pin_names (take i pins)) = sym (mapped_length (take i pins) ∙ taken_length pins i less) in
       index_push name table after (pin_names (take i pins)) (pin_names (take (i + 1) pins)) i none places updates long
       (names_taken pins i x less is ∙ ap (λ n. pin_names (take i pins) ++ n ∷ []) (sym named)) where
-        is_none : (o : Option ℕ) → is_some o ≡ false → o ≡ None
-        is_none None e = refl
-        is_none (Some n) e = absurd (false≢true (sym e))
-
         mapped_length : (ps : List MasterPinModel) → length (pin_names ps) ≡ length ps
         mapped_length [] = refl
         mapped_length (p ∷ ps) = ap suc (mapped_length ps)
@@ -138,22 +123,22 @@ pub under_more : (masters : List MasterModel) (lists : List (List ℕ)) (old new
     → ((q : List ℕ) → is_some (place_of q (used_names x (get_or lists i []))) ≡ true → is_in i (new q) ≡ true) → AreUnder (take (i + 1) masters) lists new
 under_more masters lists old new i x less is before kept added m master q there named =
     ⊎_elim
+    (λ earlier. kept q m (before m master q earlier named))
     (λ (last : (m ≡ length (take i masters)) × (master ≡ x)).
     let place : m ≡ i = last.0 ∙ taken_length masters i less in
     rw place (added q (rw (place, last.1) at named)))
-    (λ earlier. kept q m (before m master q earlier named))
     (last_or_before (take i masters) x m master (rw (taken masters i x less is) at there))
 
 -- that stands in the list of its macro
-pub listed_more : (components : List Component) (lists after : List (List ℕ)) (i m : ℕ) (x : Component) → i < length components → x ≡ get_or components i x
-    → AreListed (take i components) lists → m ≡ x.master → length after ≡ length lists → is_in i (get_or after m []) ≡ true
+pub listed_more : (components : List Component) (lists after : List (List ℕ)) (i : ℕ) (x : Component) → i < length components → x ≡ get_or components i x
+    → AreListed (take i components) lists → length after ≡ length lists → is_in i (get_or after x.master []) ≡ true
     → ((k n : ℕ) → is_in n (get_or lists k []) ≡ true → is_in n (get_or after k []) ≡ true) → AreListed (take (i + 1) components) after
-listed_more components lists after i m x less is before of_it long added kept c component there inside =
+listed_more components lists after i x less is before long added kept c component there inside =
     ⊎_elim
+    (λ earlier. kept component.master c (before c component earlier (rw long at inside)))
     (λ (last : (c ≡ length (take i components)) × (component ≡ x)).
     let place : c ≡ i = last.0 ∙ taken_length components i less in
-    rw (place, last.1, ← of_it) added)
-    (λ earlier. kept component.master c (before c component earlier (rw long at inside)))
+    rw (place, last.1) added)
     (last_or_before (take i components) x c component (rw (taken components i x less is) at there))
 
 pub length_longer : (lists whole : List (List ℕ)) (place number : ℕ) → whole ≡ set lists place (get_or lists place [] ++ number ∷ [])
@@ -164,7 +149,7 @@ pub listed_longer : (components : List Component) (lists whole : List (List ℕ)
     → AreListed (take i components) lists → x.master < length lists → whole ≡ set lists x.master (get_or lists x.master [] ++ i ∷ [])
     → AreListed (take (i + 1) components) whole
 listed_longer components lists whole i x less is before within put =
-    listed_more components lists whole i x.master x less is before refl
+    listed_more components lists whole i x less is before
     (length_longer lists whole x.master i put)
     (rw put (number_added lists x.master i within))
     (λ k n there. rw put (numbers_kept lists x.master i within k n there))
@@ -174,8 +159,8 @@ pub listed_past : (components : List Component) (lists : List (List ℕ)) (i : �
     → AreListed (take i components) lists → length lists ≤ x.master → AreListed (take (i + 1) components) lists
 listed_past components lists i x less is before past c component there inside =
     ⊎_elim
+    (λ earlier. before c component earlier inside)
     (λ (last : (c ≡ length (take i components)) × (component ≡ x)).
     let few : x.master < length lists = rw last.1 at inside in
     absurd (omega (arith, past, few)))
-    (λ earlier. before c component earlier inside)
     (last_or_before (take i components) x c component (rw (taken components i x less is) at there))

@@ -6,7 +6,7 @@ use Rattle.leg_lex.specs.NameLookup.{AreApart}
 use Rattle.leg_design_records.specs.declared.limits.TheConstants.{ENTRY_LIMIT, PART_LIMIT}
 use Rattle.leg_design_records.specs.declared.records.Terminal.{Terminal}
 use Rattle.leg_design_records.specs.declared.records.Terminal.TheVariants.{Pin}
-use Rattle.leg_grammar.specs.Def.Namespace.{KnownModel}
+use Rattle.leg_grammar.specs.Def.NetScope.{NetScopeModel}
 use Rattle.leg_design_records.specs.Records.{NetModel, net_names, wire_count}
 use Rattle.leg_grammar.specs.Def.LonePins.{NetLists, with_terminal}
 use Rattle.leg_design_records.specs.WellFormedNets.{AreInOneNet}
@@ -35,12 +35,12 @@ there (x ∷ xs) (suc k) less =
     let rest = there xs k (omega arith) in
     record { it = rest.it; is = rest.is }
 
-module _ (known : KnownModel) where
+module _ (scope : NetScopeModel) where
   -- what holds of the entries of both sections
   pub record HasEntries (lists : NetLists) : Type 0 where
-    pub nets : All (IsKnownNet known false) lists.nets
+    pub nets : All (IsKnownNet scope false) lists.nets
     pub nets_apart : AreApart (net_names lists.nets)
-    pub special : All (IsKnownNet known true) lists.special
+    pub special : All (IsKnownNet scope true) lists.special
     pub special_apart : AreApart (net_names lists.special)
     pub one_net : AreInOneNet (both lists)
     pub few : length lists.nets + length lists.special ≤ ENTRY_LIMIT
@@ -53,8 +53,8 @@ module _ (known : KnownModel) where
     pub kept : (u : Terminal) → Lists (both lists) u → Lists (both next) u
 
   -- the entry with the pin as one more terminal
-  more_is : (special : Bool) (p : ℕ) (net : NetModel) → p < length known.pins → IsKnownNet known special net → (Contains net.terminals (Pin p) → ⊥)
-      → IsKnownNet known special (more (Pin p) net)
+  more_is : (special : Bool) (p : ℕ) (net : NetModel) → p < length scope.pins → IsKnownNet scope special net → (Contains net.terminals (Pin p) → ⊥)
+      → IsKnownNet scope special (more (Pin p) net)
   more_is special p net there is none =
       let apart : is_among (Pin p) net.terminals ≡ false =
       false_from_ne_true (is_among (Pin p) net.terminals) (λ among. none (among_contains (Pin p) net.terminals among)) in
@@ -62,12 +62,12 @@ module _ (known : KnownModel) where
         name = is.name;
         no_must_join = is.no_must_join;
         usage = is.usage;
-        terminals = All-push (IsKnownTerminal known) net.terminals (Pin p) is.terminals there;
+        terminals = All-push (IsKnownTerminal scope) net.terminals (Pin p) is.terminals there;
         once = all_pairs_push (λ t u. t ≢ u) net.terminals (Pin p) is.once (not_among (Pin p) net.terminals apart);
         wires = is.wires;
       }
 
-  module _ (lists : NetLists) (p : ℕ) (entries : HasEntries lists) (is_pin : p < length known.pins)
+  module _ (lists : NetLists) (p : ℕ) (entries : HasEntries lists) (is_pin : p < length scope.pins)
       (none : (a : NetModel) → Contains (both lists) a → Contains a.terminals (Pin p) → ⊥) where
     -- the pin goes to an entry
     pub record Listing (next : NetLists) : Type 0 where
@@ -79,11 +79,11 @@ module _ (known : KnownModel) where
         let whole = stands_left lists.nets lists.special k net stands in
         let within = stands.within in
         let same = set_left lists.nets lists.special k (more (Pin p) net) within in
-        let is = subst (IsKnownNet known false) stands.is (entries.nets k net within) in
+        let is = subst (IsKnownNet scope false) stands.is (entries.nets k net within) in
         record {
           grown = record {
             entries = record {
-              nets = All-set (IsKnownNet known false) lists.nets k (more (Pin p) net)
+              nets = All-set (IsKnownNet scope false) lists.nets k (more (Pin p) net)
                   (more_is false p net is_pin is (none net (k, whole.within, whole.is))) entries.nets;
               nets_apart = rw (more_terminals.names_kept (Pin p) lists.nets k net stands.is) entries.nets_apart;
               special = entries.special;
@@ -103,13 +103,13 @@ module _ (known : KnownModel) where
         let at = length lists.nets + k in
         let whole = stands_right lists.nets lists.special k net stands in
         let same = set_right lists.nets lists.special k (more (Pin p) net) in
-        let is = subst (IsKnownNet known true) stands.is (entries.special k net stands.within) in
+        let is = subst (IsKnownNet scope true) stands.is (entries.special k net stands.within) in
         record {
           grown = record {
             entries = record {
               nets = entries.nets;
               nets_apart = entries.nets_apart;
-              special = All-set (IsKnownNet known true) lists.special k (more (Pin p) net)
+              special = All-set (IsKnownNet scope true) lists.special k (more (Pin p) net)
                   (more_is true p net is_pin is (none net (at, whole.within, whole.is))) entries.special;
               special_apart = rw (more_terminals.names_kept (Pin p) lists.special k net stands.is) entries.special_apart;
               one_net = rw same (more_terminals.still_one_net (Pin p) (both lists) at net whole entries.one_net none);

@@ -5,6 +5,7 @@ use Rattle.std.proofs.lemmas.Bool.{or_parts}
 use Rattle.std.proofs.lemmas.Bool.Decides.{nat_tests}
 use Rattle.std.proofs.lemmas.List.{map_push, length_push}
 use Rattle.std.proofs.lemmas.List.Elements.{All-nil, All-push, All-append, All-contains, Contains-append_left, Contains-append_right, Contains-append_cases, Contains-push_cases}
+use Rattle.leg_lemmas.proofs.Options.{none_is}
 use Rattle.leg_lex.specs.Words.{Words, is_keyword, is_name, is_at, keyword_at, mark_at, word_at}
 use Rattle.leg_lex.specs.Statements.{statement_at}
 use Rattle.leg_lex.specs.NameLookup.{place_of, AreApart}
@@ -12,32 +13,32 @@ use Rattle.leg_lex.proofs.NameLookup.{apart_push}
 use Rattle.leg_lex.proofs.GivesAll.{until_gives}
 use Rattle.leg_design_records.specs.declared.limits.TheConstants.{ENTRY_LIMIT, PART_LIMIT}
 use Rattle.leg_grammar.specs.Def.Guard.{unless, is_over}
-use Rattle.leg_grammar.specs.Def.Namespace.{KnownModel}
+use Rattle.leg_grammar.specs.Def.NetScope.{NetScopeModel}
 use Rattle.leg_grammar.specs.Def.Terminal.{is_of_other_net, at_no_terminal, terminal_form}
 use Rattle.leg_grammar.specs.Def.Wiring.{is_wiring}
 use Rattle.leg_design_records.specs.Records.{NetModel, net_names, terminal_count, wire_count}
 use Rattle.leg_grammar.specs.Def.Net.{NetParts, no_net_parts, is_left_out, use_clause, wiring_clause, past_clause, clause_at, net_clause, net_name_at, net_in, are_too_many, net_entry, section_word, nets_at}
 use Rattle.leg_design_records.specs.WellFormedParts.{IsKept}
 use Rattle.leg_design_records.specs.WellFormedNets.{IsWire, AreInOneNet}
-use Rattle.leg_design_common.proofs.Gives.{Gives, gives_none, gives_some, gives_bind, gives_skip, gives_if, unless_gives, none_from, name_gives, word_gives, section_gives}
+use Rattle.leg_design_common.proofs.Gives.{Gives, gives_none, gives_some, gives_bind, gives_skip, gives_if, unless_gives, name_gives, word_gives, section_gives}
 use Rattle.leg_design_nets.proofs.ReadPaths.{AreWires}
 use Rattle.leg_design_nets.proofs.ReadWiring.{wiring_gives}
 use Rattle.leg_design_nets.proofs.ReadListed.{of_this_net}
 use Rattle.leg_design_nets.proofs.ReadTerminals.{AreKnown, AreTerminals, no_terminals, terminal_gives}
 
-module _ (known : KnownModel) (special : Bool) where
+module _ (scope : NetScopeModel) (special : Bool) where
   -- an entry of what is read before the nets
   pub record IsKnownNet (net : NetModel) : Type 0 where
     pub name : is_name net.name ≡ true
     pub no_must_join : is_keyword (codes "MUSTJOIN") net.name ≡ false
     pub usage : IsKept net.usage
-    pub terminals : AreKnown known net.terminals
+    pub terminals : AreKnown scope net.terminals
     pub once : AllPairs (λ t u. t ≢ u) net.terminals
-    pub wires : AreWires known special net.wires
+    pub wires : AreWires scope special net.wires
 
   record AreNetParts (parts : NetParts) : Type 0 where
     usage : IsKept parts.usage
-    wires : AreWires known special parts.wires
+    wires : AreWires scope special parts.wires
 
   module _ (parts : NetParts) (clause : Words) (before : AreNetParts parts) where
     abbrev Keeps : Option (NetParts × Words) → Type 0
@@ -51,24 +52,24 @@ module _ (known : KnownModel) (special : Bool) where
         gives_bind (word_gives start.1) (λ word plain.
         gives_some _ (record { usage = plain; wires = before.wires }))))
 
-    wiring_keeps : Keeps (wiring_clause known special parts clause)
+    wiring_keeps : Keeps (wiring_clause scope special parts clause)
     unfolding wiring_clause
     wiring_keeps =
-        gives_bind (wiring_gives known special clause) (λ wires more.
-        gives_some _ (record { usage = before.usage; wires = All-append (IsWire known.library known.vias special) parts.wires wires.0 before.wires more }))
+        gives_bind (wiring_gives scope special clause) (λ wires more.
+        gives_some _ (record { usage = before.usage; wires = All-append (IsWire scope.library scope.vias special) parts.wires wires.0 before.wires more }))
 
     past_keeps : Keeps (past_clause parts clause)
     unfolding past_clause
     past_keeps = gives_skip (word_at clause) (λ word. gives_some _ before)
 
-    clause_keeps : Keeps (clause_at known special parts clause)
+    clause_keeps : Keeps (clause_at scope special parts clause)
     unfolding clause_at
     clause_keeps =
         gives_if (is_at (codes "USE") clause) use_keeps
         (gives_if (is_wiring special clause) wiring_keeps
         (gives_if (is_left_out special clause) gives_none past_keeps))
 
-  net_clause_keeps : (parts : NetParts) (words : Words) → AreNetParts parts → Gives (λ said. AreNetParts said.0) (net_clause known special parts words)
+  net_clause_keeps : (parts : NetParts) (words : Words) → AreNetParts parts → Gives (λ said. AreNetParts said.0) (net_clause scope special parts words)
   unfolding net_clause
   net_clause_keeps parts words before = gives_skip (mark_at 43 words) (λ plus. clause_keeps parts plus.1 before)
 
@@ -84,7 +85,7 @@ module _ (known : KnownModel) (special : Bool) where
       gives_bind (name_gives words) (λ name named.
       gives_bind (unless_gives (is_keyword (codes "MUSTJOIN") name.0 || is_some (place_of name.0 (net_names nets)))) (λ new is.
       let parts = or_parts (is_keyword (codes "MUSTJOIN") name.0) (is_some (place_of name.0 (net_names nets))) is in
-      gives_some name (record { named = named; no_must_join = parts.0; new = none_from (place_of name.0 (net_names nets)) parts.1 })))
+      gives_some name (record { named = named; no_must_join = parts.0; new = none_is (place_of name.0 (net_names nets)) parts.1 })))
 
   module _ (others : List NetModel) where
     -- one more entry, beside those of the section and the others
@@ -93,15 +94,15 @@ module _ (known : KnownModel) (special : Bool) where
       new : place_of net.name (net_names nets) ≡ None
       alone : All (λ t. is_of_other_net net.name t (nets ++ others) ≡ false) net.terminals
 
-    net_gives : (nets : List NetModel) (statement : Words) → Gives (IsNewNet nets) (net_in known special others nets statement)
+    net_gives : (nets : List NetModel) (statement : Words) → Gives (IsNewNet nets) (net_in scope special others nets statement)
     unfolding net_in
     net_gives nets statement =
         gives_skip (mark_at 45 statement) (λ dash.
         gives_bind (name_gives_new nets dash.1) (λ name new.
-        gives_bind (until_gives (AreTerminals known name.0 (nets ++ others)) at_no_terminal (terminal_form known special name.0 (nets ++ others))
-        (terminal_gives known special name.0 (nets ++ others)) [] name.1 (no_terminals known name.0 (nets ++ others))) (λ terminals are.
-        gives_bind (until_gives AreNetParts is_over (net_clause known special) net_clause_keeps no_net_parts terminals.1
-        (record { usage = tt; wires = All-nil (IsWire known.library known.vias special) })) (λ parts hold.
+        gives_bind (until_gives (AreTerminals scope name.0 (nets ++ others)) at_no_terminal (terminal_form scope special name.0 (nets ++ others))
+        (terminal_gives scope special name.0 (nets ++ others)) [] name.1 (no_terminals scope name.0 (nets ++ others))) (λ terminals are.
+        gives_bind (until_gives AreNetParts is_over (net_clause scope special) net_clause_keeps no_net_parts terminals.1
+        (record { usage = tt; wires = All-nil (IsWire scope.library scope.vias special) })) (λ parts hold.
         gives_some _ (record {
           is = record { name = new.named; no_must_join = new.no_must_join; usage = hold.usage; terminals = are.each; once = are.once; wires = hold.wires };
           new = new.new;
@@ -150,7 +151,7 @@ module _ (known : KnownModel) (special : Bool) where
           few_wires = grind (arith, nat_tests);
         }
 
-    entry_gives : (nets : List NetModel) (words : Words) → AreEntries nets → Gives (λ said. AreEntries said.0) (net_entry known special others nets words)
+    entry_gives : (nets : List NetModel) (words : Words) → AreEntries nets → Gives (λ said. AreEntries said.0) (net_entry scope special others nets words)
     unfolding net_entry
     entry_gives nets words before =
         gives_bind (unless_gives (nat_le ENTRY_LIMIT (length nets + length others))) (λ free room.
@@ -160,7 +161,7 @@ module _ (known : KnownModel) (special : Bool) where
         gives_some _ (with_net nets net before room new is)))))
 
     -- The entries of a section, beside the others.
-    pub nets_give : AreEntries [] → (words : Words) → Gives (λ said. AreEntries said.0) (nets_at known special others words)
+    pub nets_give : AreEntries [] → (words : Words) → Gives (λ said. AreEntries said.0) (nets_at scope special others words)
     unfolding nets_at
     nets_give none words =
-        section_gives AreEntries (section_word special) (net_entry known special others) entry_gives [] words none
+        section_gives AreEntries (section_word special) (net_entry scope special others) entry_gives [] words none

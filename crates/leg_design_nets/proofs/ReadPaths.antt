@@ -14,14 +14,14 @@ use Rattle.leg_design_records.specs.declared.records.Wire.{Wire}
 use Rattle.leg_design_records.specs.declared.records.Wire.TheVariants.{ViaAt, Patch}
 use Rattle.leg_grammar.specs.Def.Guard.{when}
 use Rattle.leg_design_records.specs.Layers.{width_of_layer, is_routing}
-use Rattle.leg_grammar.specs.Def.Namespace.{KnownModel, via_numbered}
+use Rattle.leg_grammar.specs.Def.NetScope.{NetScopeModel, via_numbered}
 use Rattle.leg_design_records.specs.Wires.{is_even}
 use Rattle.leg_grammar.specs.declared.path_item.Item.{Item}
 use Rattle.leg_grammar.specs.declared.path_item.Item.TheVariants.{ToPoint, AtVia, AtRect}
 use Rattle.leg_grammar.specs.Def.Path.{next_spot, is_same_spot, last_given, extension_at, segment_to, segment_width, other_layer, across, wires_from, path_wires}
 use Rattle.leg_design_records.specs.Wires.{is_straight, default_extension}
 use Rattle.leg_design_records.specs.WellFormedParts.{IsPosition, IsArea}
-use Rattle.leg_design_records.specs.WellFormedNets.{IsWidth, written, IsExtension, IsWire}
+use Rattle.leg_design_records.specs.WellFormedNets.{IsWireWidth, written, IsExtension, IsWire}
 use Rattle.leg_design_common.proofs.Gives.{Gives, gives_none, gives_some, gives_bind, gives_skip, gives_choice, gives_itself, when_gives, unless_gives}
 
 -- an extension that is given
@@ -88,30 +88,37 @@ above_zero width least other =
     let apart : width ≢ pos 0 = λ same. true≢false (sym ((Decides-int_eq width (pos 0)).1 same) ∙ other) in
     omega (arith, ints)
 
-module _ (known : KnownModel) (special : Bool) where
-  width_gives : (width : Option ℤ) (layer : ℕ) → IsWritten special width → Gives (IsWidth known.library special layer) (segment_width known.library width layer)
+-- an end of a segment: a position, and an extension if one is given
+record IsSegmentEnd (at : PointModel) (extension : Option ℤ) : Type 0 where
+  position : IsPosition at
+  given : IsGiven extension
+
+module _ (scope : NetScopeModel) (special : Bool) where
+  width_gives : (width : Option ℤ) (layer : ℕ) → IsWritten special width
+      → Gives (IsWireWidth scope.library special layer) (segment_width scope.library width layer)
   unfolding segment_width
   width_gives width layer is = by special width is where
-    by : (special : Bool) (width : Option ℤ) → IsWritten special width → Gives (IsWidth known.library special layer) (segment_width known.library width layer)
-    by false None is = gives_itself (width_of_layer known.library layer)
+    by : (special : Bool) (width : Option ℤ) → IsWritten special width
+        → Gives (IsWireWidth scope.library special layer) (segment_width scope.library width layer)
+    by false None is = gives_itself (width_of_layer scope.library layer)
     by false (Some width) is = absurd is
     by true None is = absurd is
     by true (Some width) is =
         gives_bind (unless_gives (int_eq width (pos 0))) (λ some other. gives_some width (is.0, above_zero width is.1 other, is.2))
 
   default_is : (width : Option ℤ) (layer : ℕ) → IsWritten special width
-      → default_extension known.library width layer ≡ default_extension known.library (written special) layer
+      → default_extension scope.library width layer ≡ default_extension scope.library (written special) layer
   unfolding default_extension
   default_is width layer is = by special width is where
     by : (special : Bool) (width : Option ℤ) → IsWritten special width
-        → default_extension known.library width layer ≡ default_extension known.library (written special) layer
+        → default_extension scope.library width layer ≡ default_extension scope.library (written special) layer
     by false None is = refl
     by false (Some width) is = absurd is
     by true None is = absurd is
     by true (Some width) is = refl
 
   extension_holds : (width : Option ℤ) (layer : ℕ) (extension : Option ℤ) → IsWritten special width → IsGiven extension
-      → IsExtension known.library special layer (unwrap_or extension (default_extension known.library width layer))
+      → IsExtension scope.library special layer (unwrap_or extension (default_extension scope.library width layer))
   extension_holds width layer None is given = inr (default_is width layer is)
   extension_holds width layer (Some extension) is given = inl given
 
@@ -123,52 +130,52 @@ module _ (known : KnownModel) (special : Bool) where
     by true here rest = gives_some shape here
     by false there rest = rest
 
-  other_gives : (layer : ℕ) (shapes : List Shape) → Gives (λ other. is_routing known.library other ≡ true) (other_layer known.library layer shapes)
+  other_gives : (layer : ℕ) (shapes : List Shape) → Gives (λ other. is_routing scope.library other ≡ true) (other_layer scope.library layer shapes)
   other_gives layer shapes =
-      gives_bind (find_gives (λ shape. is_routing known.library shape.layer && not (shape.layer == layer)) shapes) (λ shape other.
-      gives_some shape.layer (and_parts (is_routing known.library shape.layer) (not (shape.layer == layer)) other).0)
+      gives_bind (find_gives (λ shape. is_routing scope.library shape.layer && not (shape.layer == layer)) shapes) (λ shape other.
+      gives_some shape.layer (and_parts (is_routing scope.library shape.layer) (not (shape.layer == layer)) other).0)
 
   -- a good via leads to a routing layer
   record LeadsTo (number other : ℕ) : Type 0 where
     via : ViaModel
-    there : via_numbered known number ≡ Some via
+    there : via_numbered scope number ≡ Some via
     good : via.good ≡ true
-    routes : is_routing known.library other ≡ true
+    routes : is_routing scope.library other ≡ true
 
-  across_gives : (number layer : ℕ) → Gives (LeadsTo number) (across known number layer)
+  across_gives : (number layer : ℕ) → Gives (LeadsTo number) (across scope number layer)
   unfolding across
   across_gives number layer =
-      gives_bind (gives_itself (via_numbered known number)) (λ via there.
+      gives_bind (gives_itself (via_numbered scope number)) (λ via there.
       gives_bind (when_gives via.good) (λ is_good good.
       gives_skip (when (list_any (λ shape. shape.layer == layer) via.shapes)) (λ meets.
       record { given = λ other is. record { via = via; there = there; good = good; routes = (other_gives layer via.shapes).given other is } })))
 
   abbrev pub AreWires : List Wire → Type 0
-  AreWires wires = All (IsWire known.library known.vias special) wires
+  AreWires wires = All (IsWire scope.library scope.vias special) wires
 
   segment_gives : (width : Option ℤ) → IsWritten special width → (layer : ℕ) (at : PointModel) (extension : Option ℤ) (to : PointModel) (there : Option ℤ)
-      → is_routing known.library layer ≡ true → IsPosition at → IsPosition to → IsGiven extension → IsGiven there → is_same_spot at to ≡ false
-      → Gives (IsWire known.library known.vias special) (segment_to known.library width layer at extension to there)
+      → is_routing scope.library layer ≡ true → IsSegmentEnd at extension → IsSegmentEnd to there → is_same_spot at to ≡ false
+      → Gives (IsWire scope.library scope.vias special) (segment_to scope.library width layer at extension to there)
   unfolding segment_to
-  segment_gives width is layer at extension to there routes position end given further other =
+  segment_gives width is layer at extension to there routes start end other =
       gives_bind (when_gives (is_straight at to)) (λ straight is_straight_.
       gives_bind (width_gives width layer is) (λ wide is_width.
       gives_some _ (record {
         routes = routes;
-        from_ = position;
-        to_ = end;
+        from_ = start.position;
+        to_ = end.position;
         straight = is_straight_;
         long = other_spot at to other;
         width_ = is_width;
-        from_extension = extension_holds width layer extension is given;
-        to_extension = extension_holds width layer there is further;
+        from_extension = extension_holds width layer extension is start.given;
+        to_extension = extension_holds width layer there is end.given;
       })))
 
   pub wires_give : (width : Option ℤ) → IsWritten special width → (items : List Item) (layer : ℕ) (at : PointModel) (extension : Option ℤ)
-      → is_routing known.library layer ≡ true → IsPosition at → IsGiven extension → All (IsItem special) items
-      → Gives AreWires (wires_from known width layer at extension items)
+      → is_routing scope.library layer ≡ true → IsPosition at → IsGiven extension → All (IsItem special) items
+      → Gives AreWires (wires_from scope width layer at extension items)
   unfolding wires_from
-  wires_give width is [] layer at extension routes position given each = gives_some [] (All-nil (IsWire known.library known.vias special))
+  wires_give width is [] layer at extension routes position given each = gives_some [] (All-nil (IsWire scope.library scope.vias special))
   wires_give width is (ToPoint x y next ∷ items) layer at extension routes position given each =
       let item = All-head (IsItem special) (ToPoint x y next) items each in
       let rest = All-tail (IsItem special) (ToPoint x y next) items each in
@@ -176,20 +183,21 @@ module _ (known : KnownModel) (special : Bool) where
       let further = extension_is special items (next_spot at x y) next rest item.2 in
       gives_choice (is_same_spot at (next_spot at x y)) (λ same. wires_give width is items layer at extension routes position given rest) (λ other.
       gives_bind (segment_gives width is layer at extension (next_spot at x y)
-      (extension_at (next_spot at x y) next items) routes position there given further other) (λ segment spelled.
+      (extension_at (next_spot at x y) next items) routes (record { position = position; given = given }) (record { position = there; given = further }) other)
+      (λ segment spelled.
       gives_bind (wires_give width is items layer (next_spot at x y) (extension_at (next_spot at x y) next items) routes there further rest) (λ wires are.
-      gives_some _ (All-cons (IsWire known.library known.vias special) segment wires spelled are))))
+      gives_some _ (All-cons (IsWire scope.library scope.vias special) segment wires spelled are))))
   wires_give width is (AtVia via ∷ items) layer at extension routes position given each =
       gives_bind (across_gives via layer) (λ other leads.
       gives_bind (wires_give width is items other at extension leads.routes position given (All-tail (IsItem special) (AtVia via) items each)) (λ wires are.
-      gives_some _ (All-cons (IsWire known.library known.vias special) (ViaAt via at) wires (position, (leads.via, leads.there, leads.good)) are)))
+      gives_some _ (All-cons (IsWire scope.library scope.vias special) (ViaAt via at) wires (position, (leads.via, leads.there, leads.good)) are)))
   wires_give width is (AtRect rect ∷ items) layer at extension routes position given each =
       let item = All-head (IsItem special) (AtRect rect) items each in
       gives_bind (wires_give width is items layer at extension routes position given (All-tail (IsItem special) (AtRect rect) items each)) (λ wires are.
-      gives_some _ (All-cons (IsWire known.library known.vias special) (Patch layer at rect) wires (item.0, routes, position, item.1) are))
+      gives_some _ (All-cons (IsWire scope.library scope.vias special) (Patch layer at rect) wires (item.0, routes, position, item.1) are))
 
   pub path_gives : (width : Option ℤ) (layer : ℕ) (first : PointModel) (given : Option ℤ) (items : List Item) → IsWritten special width
-      → is_routing known.library layer ≡ true → IsPosition first → IsGiven given → All (IsItem special) items
-      → Gives AreWires (path_wires known width layer first given items)
+      → is_routing scope.library layer ≡ true → IsPosition first → IsGiven given → All (IsItem special) items
+      → Gives AreWires (path_wires scope width layer first given items)
   path_gives width layer first given items is routes position is_given each =
       wires_give width is items layer first (extension_at first given items) routes position (extension_is special items first given each is_given) each

@@ -10,33 +10,33 @@ use Rattle.leg_lib_records.specs.Records.{MasterModel}
 use Rattle.leg_design_records.specs.declared.records.Component.{Component}
 use Rattle.leg_design_records.specs.declared.records.Terminal.{Terminal}
 use Rattle.leg_design_records.specs.declared.records.Terminal.TheVariants.{Comp, Pin}
-use Rattle.leg_grammar.specs.Def.Namespace.{KnownModel}
+use Rattle.leg_grammar.specs.Def.NetScope.{NetScopeModel}
 use Rattle.leg_design_records.specs.Records.{PinModel, NetModel, component_names}
 use Rattle.leg_design_records.specs.Terminals.{is_among}
 use Rattle.leg_grammar.specs.Def.Terminal.{pin_of_component, with_pin, pins_of_all, component_terminal, pin_terminal, one_terminal_at, all_terminals_at, past_synthesized, terminals_at, is_of_other_net, add_terminal, terminal_form}
 use Rattle.leg_design_common.proofs.Gives.{Gives, gives_none, gives_some, gives_bind, gives_skip, gives_choice, gives_if, gives_itself, each_gives}
 use Rattle.leg_design_nets.proofs.ReadListed.{not_among}
 
-module _ (known : KnownModel) where
+module _ (scope : NetScopeModel) where
   -- a component of this number has a pin of this number
   record HasPin (component : Component) (k : ℕ) : Type 0 where
     master : MasterModel
-    there : slice_get known.library.masters component.master ≡ Some master
+    there : slice_get scope.library.masters component.master ≡ Some master
     within : k < length master.pins
 
   -- a terminal of what is read before the nets
   abbrev pub IsKnownTerminal : Terminal → Type 0
   IsKnownTerminal (Comp c k) =
-      (component : Component) × (slice_get known.components c ≡ Some component)
-      × ((master : MasterModel) × (slice_get known.library.masters component.master ≡ Some master) × (k < length master.pins))
-  IsKnownTerminal (Pin p) = p < length known.pins
+      (component : Component) × (slice_get scope.components c ≡ Some component)
+      × ((master : MasterModel) × (slice_get scope.library.masters component.master ≡ Some master) × (k < length master.pins))
+  IsKnownTerminal (Pin p) = p < length scope.pins
 
   abbrev pub AreKnown : List Terminal → Type 0
   AreKnown terminals = All IsKnownTerminal terminals
 
-  has_pin : (component : Component) (name : List ℕ) → Gives (HasPin component) (pin_of_component known.library component name)
+  has_pin : (component : Component) (name : List ℕ) → Gives (HasPin component) (pin_of_component scope.library component name)
   has_pin component name =
-      gives_bind (gives_itself (slice_get known.library.masters component.master)) (λ master there.
+      gives_bind (gives_itself (slice_get scope.library.masters component.master)) (λ master there.
       record {
         given = λ k is. record {
           master = master;
@@ -45,19 +45,19 @@ module _ (known : KnownModel) where
         };
       })
 
-  component_gives : (of_component name : List ℕ) → Gives IsKnownTerminal (component_terminal known of_component name)
+  component_gives : (of_component name : List ℕ) → Gives IsKnownTerminal (component_terminal scope of_component name)
   component_gives of_component name =
-      gives_skip (place_of of_component (component_names known.components)) (λ c.
-      gives_bind (gives_itself (slice_get known.components c)) (λ component there.
+      gives_skip (place_of of_component (component_names scope.components)) (λ c.
+      gives_bind (gives_itself (slice_get scope.components c)) (λ component there.
       gives_bind (has_pin component name) (λ k has.
       gives_some _ (component, there, (has.master, has.there, has.within)))))
 
-  pin_gives : (name : List ℕ) → Gives IsKnownTerminal (pin_terminal known name)
+  pin_gives : (name : List ℕ) → Gives IsKnownTerminal (pin_terminal scope name)
   pin_gives name =
-      gives_bind (named_gives_within (λ (p : PinModel). p.name) name known.pins) (λ p less.
+      gives_bind (named_gives_within (λ (p : PinModel). p.name) name scope.pins) (λ p less.
       gives_some _ less)
 
-  one_gives : (words : Words) → Gives (λ said. AreKnown said.0) (one_terminal_at known words)
+  one_gives : (words : Words) → Gives (λ said. AreKnown said.0) (one_terminal_at scope words)
   unfolding one_terminal_at
   one_gives words =
       gives_skip (name_at words) (λ of_component.
@@ -65,10 +65,10 @@ module _ (known : KnownModel) where
       gives_bind (gives_if (is_keyword (codes "PIN") of_component.0) (pin_gives name.0) (component_gives of_component.0 name.0)) (λ terminal is.
       gives_some _ (All-cons IsKnownTerminal terminal [] is (All-nil IsKnownTerminal)))))
 
-  with_pin_known : (c : ℕ) (component : Component) (name : List ℕ) (terminals : List Terminal) → slice_get known.components c ≡ Some component
-      → AreKnown terminals → AreKnown (with_pin c (pin_of_component known.library component name) terminals)
-  with_pin_known c component name terminals there each = by (pin_of_component known.library component name) refl where
-    by : (pin : Option ℕ) → pin_of_component known.library component name ≡ pin → AreKnown (with_pin c pin terminals)
+  with_pin_known : (c : ℕ) (component : Component) (name : List ℕ) (terminals : List Terminal) → slice_get scope.components c ≡ Some component
+      → AreKnown terminals → AreKnown (with_pin c (pin_of_component scope.library component name) terminals)
+  with_pin_known c component name terminals there each = by (pin_of_component scope.library component name) refl where
+    by : (pin : Option ℕ) → pin_of_component scope.library component name ≡ pin → AreKnown (with_pin c pin terminals)
     by None is = each
     by (Some k) is =
         let has = (has_pin component name).given k is in
@@ -76,9 +76,9 @@ module _ (known : KnownModel) where
 
   -- the components from this number on
   abbrev StandFrom : ℕ → List Component → Type 0
-  StandFrom c components = (i : ℕ) (component : Component) → slice_get components i ≡ Some component → slice_get known.components (c + i) ≡ Some component
+  StandFrom c components = (i : ℕ) (component : Component) → slice_get components i ≡ Some component → slice_get scope.components (c + i) ≡ Some component
 
-  all_known : (name : List ℕ) (c : ℕ) (components : List Component) → StandFrom c components → AreKnown (pins_of_all known.library name c components)
+  all_known : (name : List ℕ) (c : ℕ) (components : List Component) → StandFrom c components → AreKnown (pins_of_all scope.library name c components)
   unfolding pins_of_all
   all_known name c [] stand = All-nil IsKnownTerminal
   all_known name c (component ∷ components) stand =
@@ -86,17 +86,17 @@ module _ (known : KnownModel) where
       let later : StandFrom (suc c) components = λ i x is.
       let next : c + suc i ≡ suc c + i = omega arith in
       rw (← next) (stand (suc i) x is) in
-      with_pin_known c component name (pins_of_all known.library name (suc c) components) (rw first at (stand 0 component refl))
+      with_pin_known c component name (pins_of_all scope.library name (suc c) components) (rw first at (stand 0 component refl))
       (all_known name (suc c) components later)
 
-  all_give : (words : Words) → Gives (λ said. AreKnown said.0) (all_terminals_at known words)
+  all_give : (words : Words) → Gives (λ said. AreKnown said.0) (all_terminals_at scope words)
   unfolding all_terminals_at
   all_give words =
       gives_skip (mark_at 42 words) (λ star.
       gives_skip (name_at star.1) (λ name.
-      gives_some _ (all_known name.0 0 known.components (λ i component is. let same : 0 + i ≡ i = omega arith in rw same is))))
+      gives_some _ (all_known name.0 0 scope.components (λ i component is. let same : 0 + i ≡ i = omega arith in rw same is))))
 
-  terminals_give : (special : Bool) (words : Words) → Gives (λ said. AreKnown said.0) (terminals_at known special words)
+  terminals_give : (special : Bool) (words : Words) → Gives (λ said. AreKnown said.0) (terminals_at scope special words)
   unfolding terminals_at
   terminals_give special words =
       gives_skip (mark_at 40 words) (λ open_.
@@ -131,7 +131,7 @@ module _ (known : KnownModel) where
   }
 
   pub terminal_gives : (special : Bool) (name : List ℕ) (nets : List NetModel) (terminals : List Terminal) (words : Words) → AreTerminals name nets terminals
-      → Gives (λ said. AreTerminals name nets said.0) (terminal_form known special name nets terminals words)
+      → Gives (λ said. AreTerminals name nets said.0) (terminal_form scope special name nets terminals words)
   unfolding terminal_form
   terminal_gives special name nets terminals words before =
       gives_bind (terminals_give special words) (λ said each.

@@ -13,7 +13,7 @@ use Rattle.leg_lib_records.specs.Records.{layer_names}
 use Rattle.leg_design_records.specs.declared.records.Wire.{Wire}
 use Rattle.leg_grammar.specs.Def.Guard.{unless}
 use Rattle.leg_design_records.specs.Layers.{is_routing}
-use Rattle.leg_grammar.specs.Def.Namespace.{KnownModel, via_named}
+use Rattle.leg_grammar.specs.Def.NetScope.{NetScopeModel, via_named}
 use Rattle.leg_grammar.specs.declared.path_item.Item.{Item}
 use Rattle.leg_grammar.specs.Def.Path.{}
 use Rattle.leg_grammar.specs.Def.PathItem.{count_at, coordinate_at, extension_in_point, point_item, first_point_at, rect_item, past_north, via_item, item_at, one_item, at_path_end}
@@ -58,7 +58,7 @@ first_point_gives words =
     gives_skip (mark_at 41 extension.1) (λ close.
     gives_some _ (record { x = wide; y = high }, given))))))
 
-module _ (known : KnownModel) (special : Bool) where
+module _ (scope : NetScopeModel) (special : Bool) where
   point_item_gives : (words : Words) → Gives (λ said. IsItem special said.0) (point_item words)
   unfolding point_item
   point_item_gives words =
@@ -83,12 +83,12 @@ module _ (known : KnownModel) (special : Bool) where
       (λ rect area.
       gives_some _ (in_nets, area)))))))))
 
-  via_item_gives : (words : Words) → Gives (λ said. IsItem special said.0) (via_item known words)
+  via_item_gives : (words : Words) → Gives (λ said. IsItem special said.0) (via_item scope words)
   unfolding via_item
   via_item_gives words =
       gives_skip (name_at words) (λ name.
       gives_skip (unless (is_wiring_word name.0)) (λ other.
-      gives_skip (via_named known name.0) (λ via.
+      gives_skip (via_named scope name.0) (λ via.
       gives_skip (past_north name.1) (λ north.
       gives_some _ tt))))
 
@@ -97,7 +97,7 @@ module _ (known : KnownModel) (special : Bool) where
   not_special true true is = sym is
   not_special false special is = absurd (let e : ⊥ = cc in e)
 
-  item_gives : (words : Words) → Gives (λ said. IsItem special said.0) (item_at known special words)
+  item_gives : (words : Words) → Gives (λ said. IsItem special said.0) (item_at scope special words)
   unfolding item_at
   item_gives words =
       gives_if (is_at (codes "(") words) (point_item_gives words)
@@ -106,18 +106,18 @@ module _ (known : KnownModel) (special : Bool) where
   abbrev AreItems : List Item → Type 0
   AreItems items = All (IsItem special) items
 
-  one_item_gives : (items : List Item) (words : Words) → AreItems items → Gives (λ said. AreItems said.0) (one_item known special items words)
+  one_item_gives : (items : List Item) (words : Words) → AreItems items → Gives (λ said. AreItems said.0) (one_item scope special items words)
   unfolding one_item
   one_item_gives items words each =
       gives_bind (item_gives words) (λ item is.
       gives_some _ (All-push (IsItem special) items item.0 each is))
 
-  routing_gives : (words : Words) → Gives (λ said. is_routing known.library said.0 ≡ true) (routing_at known.library words)
+  routing_gives : (words : Words) → Gives (λ said. is_routing scope.library said.0 ≡ true) (routing_at scope.library words)
   unfolding routing_at
   routing_gives words =
       gives_skip (name_at words) (λ name.
-      gives_skip (place_of name.0 (layer_names known.library)) (λ number.
-      gives_bind (when_gives (is_routing known.library number)) (λ routes is.
+      gives_skip (place_of name.0 (layer_names scope.library)) (λ number.
+      gives_bind (when_gives (is_routing scope.library number)) (λ routes is.
       gives_some _ is)))
 
   written_gives : (words : Words) → Gives (λ said. IsWritten special said.0) (written_at special words)
@@ -135,30 +135,30 @@ module _ (known : KnownModel) (special : Bool) where
               gives_some _ (count.0, count.1, is)))
     by false = gives_skip (past_taper words) (λ taper. gives_some _ tt)
 
-  path_at_gives : (words : Words) → Gives (λ said. AreWires known special said.0) (path_at known special words)
+  path_at_gives : (words : Words) → Gives (λ said. AreWires scope special said.0) (path_at scope special words)
   unfolding path_at
   path_at_gives words =
       gives_bind (routing_gives words) (λ layer routes.
       gives_bind (written_gives layer.1) (λ written is_written.
       gives_bind (first_point_gives written.1) (λ first starts.
-      gives_bind (until_gives AreItems at_path_end (one_item known special) one_item_gives [] first.1 (All-nil (IsItem special))) (λ items each.
-      gives_bind (path_gives known special written.0 layer.0 first.0.0 first.0.1 items.0 is_written routes starts.0 starts.1 each) (λ wires are.
+      gives_bind (until_gives AreItems at_path_end (one_item scope special) one_item_gives [] first.1 (All-nil (IsItem special))) (λ items each.
+      gives_bind (path_gives scope special written.0 layer.0 first.0.0 first.0.1 items.0 is_written routes starts.0 starts.1 each) (λ wires are.
       gives_some _ are)))))
 
-  new_path_gives : (wires : List Wire) (words : Words) → AreWires known special wires
-      → Gives (λ said. AreWires known special said.0) (new_path known special wires words)
+  new_path_gives : (wires : List Wire) (words : Words) → AreWires scope special wires
+      → Gives (λ said. AreWires scope special said.0) (new_path scope special wires words)
   unfolding new_path
   new_path_gives wires words are =
       gives_skip (keyword_at (codes "NEW") words) (λ start.
       gives_bind (path_at_gives start.1) (λ path more.
-      gives_some _ (All-append (IsWire known.library known.vias special) wires path.0 are more)))
+      gives_some _ (All-append (IsWire scope.library scope.vias special) wires path.0 are more)))
 
-  paths_give : (words : Words) → Gives (λ said. AreWires known special said.0) (paths_at known special words)
+  paths_give : (words : Words) → Gives (λ said. AreWires scope special said.0) (paths_at scope special words)
   unfolding paths_at
   paths_give words =
       gives_bind (path_at_gives words) (λ first are.
-      until_gives (AreWires known special) at_no_new (new_path known special) new_path_gives first.0 first.1 are)
+      until_gives (AreWires scope special) at_no_new (new_path scope special) new_path_gives first.0 first.1 are)
 
-  pub wiring_gives : (clause : Words) → Gives (λ said. AreWires known special said.0) (wiring_at known special clause)
+  pub wiring_gives : (clause : Words) → Gives (λ said. AreWires scope special said.0) (wiring_at scope special clause)
   unfolding wiring_at
   wiring_gives clause = gives_skip (wiring_start clause) (λ start. paths_give start.1)

@@ -6,7 +6,7 @@ use Rattle.leg_lex.proofs.EachElement.{at_front}
 use Rattle.leg_lib_records.specs.declared.records.Shape.{Shape}
 use Rattle.leg_lib_records.specs.Records.{LibraryModel, ViaModel}
 use Rattle.leg_design_records.specs.Layers.{is_routing}
-use Rattle.leg_grammar.specs.Def.Namespace.{KnownModel, via_numbered}
+use Rattle.leg_grammar.specs.Def.NetScope.{NetScopeModel, via_numbered}
 use Rattle.leg_grammar.specs.Def.Path.{other_layer, across}
 
 -- The shape lies on another routing layer.
@@ -25,16 +25,16 @@ pub other_nowhere : (library : LibraryModel) (layer : ℕ) (shapes : List Shape)
 other_nowhere library layer shapes i past = rw (drop_all i shapes past) refl
 
 -- a good via without a shape on the layer
-pub across_lacks : (known : KnownModel) (number layer : ℕ) (via : ViaModel) → via_numbered known number ≡ Some via
-    → list_any (λ shape. shape.layer == layer) via.shapes ≡ false → across known number layer ≡ None
+pub across_lacks : (scope : NetScopeModel) (number layer : ℕ) (via : ViaModel) → via_numbered scope number ≡ Some via
+    → list_any (λ shape. shape.layer == layer) via.shapes ≡ false → across scope number layer ≡ None
 unfolding across
-across_lacks known number layer via is lacks = by via.good refl where
-  by : (good : Bool) → via.good ≡ good → across known number layer ≡ None
+across_lacks scope number layer via is lacks = by via.good refl where
+  by : (good : Bool) → via.good ≡ good → across scope number layer ≡ None
   by true good = rw (is, good, lacks) refl
   by false good = rw (is, good) refl
 
 -- a good via with one
-pub across_is : (known : KnownModel) (number layer : ℕ) (via : ViaModel) → via_numbered known number ≡ Some via → via.good ≡ true
-    → list_any (λ shape. shape.layer == layer) via.shapes ≡ true → across known number layer ≡ other_layer known.library layer via.shapes
+pub across_is : (scope : NetScopeModel) (number layer : ℕ) (via : ViaModel) → via_numbered scope number ≡ Some via → via.good ≡ true
+    → list_any (λ shape. shape.layer == layer) via.shapes ≡ true → across scope number layer ≡ other_layer scope.library layer via.shapes
 unfolding across
-across_is known number layer via is good has = rw (is, good, has) refl
+across_is scope number layer via is good has = rw (is, good, has) refl

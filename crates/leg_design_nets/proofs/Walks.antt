@@ -8,7 +8,7 @@ use Rattle.leg_grammar.specs.declared.path_item.Item.{Item}
 use Rattle.leg_grammar.specs.declared.path_item.Item.TheVariants.{ToPoint, AtVia, AtRect}
 use Rattle.leg_design_records.specs.declared.records.Wire.{Wire}
 use Rattle.leg_design_records.specs.declared.records.Wire.TheVariants.{ViaAt, Patch}
-use Rattle.leg_grammar.specs.Def.Namespace.{KnownModel}
+use Rattle.leg_grammar.specs.Def.NetScope.{NetScopeModel}
 use Rattle.leg_grammar.specs.Def.Path.{next_spot, is_same_spot, extension_at, segment_to, across, wires_from}
 use Rattle.leg_design_nets.specs.Steps.Walk.{Walked, wires_with, walked_to, walked_past}
 
@@ -22,10 +22,10 @@ one_before : (wires : List Wire) (wire : Wire) (others : Option (List Wire))
 one_before wires wire None = refl
 one_before wires wire (Some last) = ap Some (sym (append_assoc wires (wire ∷ []) last))
 
-module _ (known : KnownModel) (written : Option ℤ) where
+module _ (scope : NetScopeModel) (written : Option ℤ) where
   -- the segment to a point, before these items
   abbrev segment_then : Walked → PointModel → Option ℤ → List Item → Option Wire
-  segment_then walk to given later = segment_to known.library written walk.layer walk.at walk.extension to (extension_at to given later)
+  segment_then walk to given later = segment_to scope.library written walk.layer walk.at walk.extension to (extension_at to given later)
 
   -- what is there behind it
   abbrev after_segment : Walked → PointModel → Option ℤ → List Item → Wire → Walked
@@ -33,29 +33,29 @@ module _ (known : KnownModel) (written : Option ℤ) where
 
   -- the same point again
   point_same : (walk : Walked) (x y given : Option ℤ) (later : List Item) → is_same_spot walk.at (next_spot walk.at x y) ≡ true
-      → wires_with known written walk (ToPoint x y given ∷ later) ≡ wires_with known written walk later
+      → wires_with scope written walk (ToPoint x y given ∷ later) ≡ wires_with scope written walk later
   unfolding wires_from
   point_same walk x y given later same = rw same refl
 
   -- another point
   point_made : (walk : Walked) (x y given : Option ℤ) (later : List Item) (wire : Wire) → is_same_spot walk.at (next_spot walk.at x y) ≡ false
       → segment_then walk (next_spot walk.at x y) given later ≡ Some wire
-      → wires_with known written walk (ToPoint x y given ∷ later) ≡ wires_with known written (after_segment walk (next_spot walk.at x y) given later wire) later
+      → wires_with scope written walk (ToPoint x y given ∷ later) ≡ wires_with scope written (after_segment walk (next_spot walk.at x y) given later wire) later
   unfolding wires_from
   point_made walk x y given later wire apart made =
-      rw (apart, made) (one_before walk.wires wire (wires_from known written walk.layer (next_spot walk.at x y)
+      rw (apart, made) (one_before walk.wires wire (wires_from scope written walk.layer (next_spot walk.at x y)
       (extension_at (next_spot walk.at x y) given later) later))
 
   -- another point, to which no segment leads
   point_stuck : (walk : Walked) (x y given : Option ℤ) (later : List Item) → is_same_spot walk.at (next_spot walk.at x y) ≡ false
-      → segment_then walk (next_spot walk.at x y) given later ≡ None → wires_with known written walk (ToPoint x y given ∷ later) ≡ None
+      → segment_then walk (next_spot walk.at x y) given later ≡ None → wires_with scope written walk (ToPoint x y given ∷ later) ≡ None
   unfolding wires_from
   point_stuck walk x y given later apart none = rw (apart, none) refl
 
   -- the wires after an item, if it can be passed
   abbrev Onwards : Walked → Item → List Item → Type 0
   Onwards walk item later =
-      wires_with known written walk (item ∷ later) ≡ (walked_past known written item later walk >>= λ next. wires_with known written next later)
+      wires_with scope written walk (item ∷ later) ≡ (walked_past scope written item later walk >>= λ next. wires_with scope written next later)
 
   past_point : (walk : Walked) (x y given : Option ℤ) (later : List Item) (same : Bool) → is_same_spot walk.at (next_spot walk.at x y) ≡ same
       → (said : Option Wire) → segment_then walk (next_spot walk.at x y) given later ≡ said → Onwards walk (ToPoint x y given) later
@@ -64,14 +64,14 @@ module _ (known : KnownModel) (written : Option ℤ) where
   past_point walk x y given later false apart None is = point_stuck walk x y given later apart is ∙ rw (apart, is) refl
   past_point walk x y given later false apart (Some wire) is = point_made walk x y given later wire apart is ∙ rw (apart, is) refl
 
-  past_via : (walk : Walked) (via : ℕ) (later : List Item) (said : Option ℕ) → across known via walk.layer ≡ said → Onwards walk (AtVia via) later
+  past_via : (walk : Walked) (via : ℕ) (later : List Item) (said : Option ℕ) → across scope via walk.layer ≡ said → Onwards walk (AtVia via) later
   unfolding wires_from walked_past
   past_via walk via later None is = rw is refl
-  past_via walk via later (Some other) is = rw is (one_before walk.wires (ViaAt via walk.at) (wires_from known written other walk.at walk.extension later))
+  past_via walk via later (Some other) is = rw is (one_before walk.wires (ViaAt via walk.at) (wires_from scope written other walk.at walk.extension later))
 
   past_rect : (walk : Walked) (rect : RectModel) (later : List Item) → Onwards walk (AtRect rect) later
   unfolding wires_from walked_past
-  past_rect walk rect later = one_before walk.wires (Patch walk.layer walk.at rect) (wires_from known written walk.layer walk.at walk.extension later)
+  past_rect walk rect later = one_before walk.wires (Patch walk.layer walk.at rect) (wires_from scope written walk.layer walk.at walk.extension later)
 
   past_item : (walk : Walked) (item : Item) (later : List Item) → Onwards walk item later
   past_item walk (ToPoint x y given) later = past_point walk x y given later _ refl _ refl
@@ -84,24 +84,24 @@ at_front items i item less is =
     drop_more items i item less ∙ ap (λ y. y ∷ drop (i + 1) items) (sym is) ∙ ap (λ rest. item ∷ rest) (sym (the_rest items (i + 1)))
 
 -- The path is followed past one more item.
-pub walk_on : (known : KnownModel) (written : Option ℤ) (walk next : Walked) (items : List Item) (i : ℕ) (item : Item) → i < length items
-    → item ≡ get_or items i item → walked_past known written item (take (length items - (i + 1)) (drop (i + 1) items)) walk ≡ Some next
-    → wires_with known written walk (drop i items) ≡ wires_with known written next (drop (i + 1) items)
-walk_on known written walk next items i item less is said =
+pub walk_on : (scope : NetScopeModel) (written : Option ℤ) (walk next : Walked) (items : List Item) (i : ℕ) (item : Item) → i < length items
+    → item ≡ get_or items i item → walked_past scope written item (take (length items - (i + 1)) (drop (i + 1) items)) walk ≡ Some next
+    → wires_with scope written walk (drop i items) ≡ wires_with scope written next (drop (i + 1) items)
+walk_on scope written walk next items i item less is said =
     let later = take (length items - (i + 1)) (drop (i + 1) items) in
-    ap (wires_with known written walk) (at_front items i item less is) ∙ past_item known written walk item later
-    ∙ rw said (ap (wires_with known written next) (the_rest items (i + 1)))
+    ap (wires_with scope written walk) (at_front items i item less is) ∙ past_item scope written walk item later
+    ∙ rw said (ap (wires_with scope written next) (the_rest items (i + 1)))
 
 -- The item can't be passed.
-pub walk_fails : (known : KnownModel) (written : Option ℤ) (walk : Walked) (items : List Item) (i : ℕ) (item : Item) → i < length items
-    → item ≡ get_or items i item → walked_past known written item (take (length items - (i + 1)) (drop (i + 1) items)) walk ≡ None
-    → wires_with known written walk (drop i items) ≡ None
-walk_fails known written walk items i item less is said =
+pub walk_fails : (scope : NetScopeModel) (written : Option ℤ) (walk : Walked) (items : List Item) (i : ℕ) (item : Item) → i < length items
+    → item ≡ get_or items i item → walked_past scope written item (take (length items - (i + 1)) (drop (i + 1) items)) walk ≡ None
+    → wires_with scope written walk (drop i items) ≡ None
+walk_fails scope written walk items i item less is said =
     let later = take (length items - (i + 1)) (drop (i + 1) items) in
-    ap (wires_with known written walk) (at_front items i item less is) ∙ past_item known written walk item later ∙ rw said refl
+    ap (wires_with scope written walk) (at_front items i item less is) ∙ past_item scope written walk item later ∙ rw said refl
 
 -- No item is left.
-pub walk_ends : (known : KnownModel) (written : Option ℤ) (walk : Walked) (items : List Item) (i : ℕ) → length items ≤ i
-    → wires_with known written walk (drop i items) ≡ Some walk.wires
+pub walk_ends : (scope : NetScopeModel) (written : Option ℤ) (walk : Walked) (items : List Item) (i : ℕ) → length items ≤ i
+    → wires_with scope written walk (drop i items) ≡ Some walk.wires
 unfolding wires_from
-walk_ends known written walk items i past = rw (drop_all i items past) (ap Some (append-nil walk.wires))
+walk_ends scope written walk items i past = rw (drop_all i items past) (ap Some (append-nil walk.wires))

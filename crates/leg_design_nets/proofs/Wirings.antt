@@ -8,7 +8,7 @@ use Rattle.leg_lib_records.specs.Records.{LibraryModel, layer_names}
 use Rattle.leg_design_records.specs.declared.records.Wire.{Wire}
 use Rattle.leg_grammar.specs.Def.Guard.{when}
 use Rattle.leg_design_records.specs.Layers.{is_routing}
-use Rattle.leg_grammar.specs.Def.Namespace.{KnownModel}
+use Rattle.leg_grammar.specs.Def.NetScope.{NetScopeModel}
 use Rattle.leg_grammar.specs.Def.Path.{path_wires}
 use Rattle.leg_grammar.specs.Def.PathItem.{one_item, at_path_end}
 use Rattle.leg_grammar.specs.Def.Wiring.{routing_at, past_taper, written_width_at, at_no_shape, past_shape, written_at, path_at, at_no_new, new_path, paths_at, wiring_start, wiring_at}
@@ -57,32 +57,32 @@ written_below special words =
     below_some (Some width.0) shapes.1 (omega arith))))
     (below_bind (omega arith) (past_taper_below words) (λ taper less. below_some None taper.1 less))
 
-path_below : (known : KnownModel) (special : Bool) (words : Words) → Below (length words) (path_at known special words)
+path_below : (scope : NetScopeModel) (special : Bool) (words : Words) → Below (length words) (path_at scope special words)
 unfolding path_at
-path_below known special words =
-    below_bind (omega arith) (routing_below known.library words) (λ layer less.
+path_below scope special words =
+    below_bind (omega arith) (routing_below scope.library words) (λ layer less.
     below_bind (omega arith) (written_below special layer.1) (λ written fewer.
     below_bind (omega arith) (first_point_below written.1) (λ first shorter.
-    below_bind (omega arith) (until_below at_path_end (one_item known special) (one_item_shortens known special) [] first.1) (λ items last.
-    below_ask (path_wires known written.0 layer.0 first.0.0 first.0.1 items.0) (λ wires.
+    below_bind (omega arith) (until_below at_path_end (one_item scope special) (one_item_shortens scope special) [] first.1) (λ items last.
+    below_ask (path_wires scope written.0 layer.0 first.0.0 first.0.1 items.0) (λ wires.
     below_some wires items.1 last)))))
 
-pub new_path_shortens : (known : KnownModel) (special : Bool) → Shortens (new_path known special)
+pub new_path_shortens : (scope : NetScopeModel) (special : Bool) → Shortens (new_path scope special)
 unfolding new_path
-new_path_shortens known special wires words =
+new_path_shortens scope special wires words =
     below_bind (omega arith) (keyword_below (codes "NEW") words) (λ start less.
-    below_bind (omega arith) (path_below known special start.1) (λ path last.
+    below_bind (omega arith) (path_below scope special start.1) (λ path last.
     below_some (wires ++ path.0) path.1 last))
 
-pub new_path_shorter : (known : KnownModel) (special : Bool) (wires next : List Wire) (words rest : Words)
-    → new_path known special wires words ≡ Some (next, rest) → length rest < length words
-new_path_shorter known special wires next words rest said = (new_path_shortens known special wires words).left next rest said
+pub new_path_shorter : (scope : NetScopeModel) (special : Bool) (wires next : List Wire) (words rest : Words)
+    → new_path scope special wires words ≡ Some (next, rest) → length rest < length words
+new_path_shorter scope special wires next words rest said = (new_path_shortens scope special wires words).left next rest said
 
-paths_below : (known : KnownModel) (special : Bool) (words : Words) → Below (length words) (paths_at known special words)
+paths_below : (scope : NetScopeModel) (special : Bool) (words : Words) → Below (length words) (paths_at scope special words)
 unfolding paths_at
-paths_below known special words =
-    below_bind (omega arith) (path_below known special words) (λ first less.
-    below_more (omega arith) (until_below at_no_new (new_path known special) (new_path_shortens known special) first.0 first.1))
+paths_below scope special words =
+    below_bind (omega arith) (path_below scope special words) (λ first less.
+    below_more (omega arith) (until_below at_no_new (new_path scope special) (new_path_shortens scope special) first.0 first.1))
 
 start_below : (words : Words) → Below (length words) (wiring_start words)
 unfolding wiring_start
@@ -92,8 +92,8 @@ start_below words =
     below_bind (omega arith) (name_below start.1) (λ name last. below_some tt name.1 last)))
     (below_bind (omega arith) (next_below words) (λ start less. below_some tt start.1 less))
 
-pub wiring_below : (known : KnownModel) (special : Bool) (words : Words) → Below (length words) (wiring_at known special words)
+pub wiring_below : (scope : NetScopeModel) (special : Bool) (words : Words) → Below (length words) (wiring_at scope special words)
 unfolding wiring_at
-wiring_below known special words =
+wiring_below scope special words =
     below_bind (omega arith) (start_below words) (λ start less.
-    below_more (omega arith) (paths_below known special start.1))
+    below_more (omega arith) (paths_below scope special start.1))

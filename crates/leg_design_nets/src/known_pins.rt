@@ -8,7 +8,7 @@ ghost use Rattle.leg_design_nets.specs.Steps.Pins.{is_in, pin_of_numbered, pins_
 
 use crate::by_name::{ByName, joined};
 use crate::pin_index::{PinPlaces, components_of_each, masters_by_pin, places_of_each};
-use leg_design_common::Known;
+use leg_design_common::NetScope;
 use leg_design_records::Terminal;
 use leg_lib_records::Items;
 use std::alloc::{AllocError, Allocator};
@@ -19,37 +19,37 @@ use std::marker::Model;
 /// what is indexed alone.
 #[derive(Drop)]
 pub(crate) struct KnownPins<'r, 'k, 'a, A: Allocator + Copy> {
-    known: &'r Known<'k, 'a, A>,
+    scope: &'r NetScope<'k, 'a, A>,
     components: Vec<Items<usize, A>, A>,
     places: Vec<PinPlaces<'a, A>, A>,
     masters: ByName<'a, A>,
 }
 
 impl<'r, 'k, 'a, A: Allocator + Copy> Model for KnownPins<'r, 'k, 'a, A> {
-    ghost use Rattle.leg_grammar.specs.Def.Namespace.{KnownModel};
+    ghost use Rattle.leg_grammar.specs.Def.NetScope.{NetScopeModel};
     ghost use Rattle.leg_design_nets.specs.Steps.Pins.{place_in_tables, numbers_under, IsPinIndex};
 
-    ghost Value = { KnownModel };
+    ghost Value = { NetScopeModel };
 
-    ghost view = { λ k. k.known.now };
+    ghost view = { λ k. k.scope.now };
 
-    ghost invariant = { λ k. IsPinIndex k.known.now k.components.items (place_in_tables k.places.items) (numbers_under k.masters) };
+    ghost invariant = { λ k. IsPinIndex k.scope.now k.components.items (place_in_tables k.places.items) (numbers_under k.masters) };
 }
 
 impl<'r, 'k, 'a, A: Allocator + Copy> KnownPins<'r, 'k, 'a, A> {
     /// Makes the index.
     pub(crate) fn new(
         alloc: A,
-        known: &'r Known<'k, 'a, A>,
+        scope: &'r NetScope<'k, 'a, A>,
     ) -> Result<KnownPins<'r, 'k, 'a, A>, AllocError>
-        ensures { IfOk result (λ pins. pins ≡ known.now) }
+        ensures { IfOk result (λ pins. pins ≡ scope.now) }
     {
-        let library = known.library.masters();
-        let components = components_of_each(alloc, library.len(), known.components.as_slice())?;
+        let library = scope.library.masters();
+        let components = components_of_each(alloc, library.len(), scope.components.as_slice())?;
         let places = places_of_each(alloc, library, &components)?;
         let masters = masters_by_pin(alloc, library, &components)?;
         Ok(KnownPins {
-            known,
+            scope,
             components,
             places,
             masters,
@@ -57,10 +57,10 @@ impl<'r, 'k, 'a, A: Allocator + Copy> KnownPins<'r, 'k, 'a, A> {
     }
 
     /// What is indexed.
-    pub(crate) fn known(&self) -> &'r Known<'k, 'a, A>
+    pub(crate) fn scope(&self) -> &'r NetScope<'k, 'a, A>
         ensures { result.now ≡ self.now }
     {
-        self.known
+        self.scope
     }
 
     /// The number of the pin of this name of the component of this number.
@@ -68,8 +68,8 @@ impl<'r, 'k, 'a, A: Allocator + Copy> KnownPins<'r, 'k, 'a, A> {
         ensures is { result ≡ pin_of_numbered self.now number name.now }
         ensures few { IfSome result (λ _. number < ENTRY_LIMIT) }
     {
-        let known = self.known;
-        let component = known.components.as_slice().get(number)?;
+        let scope = self.scope;
+        let component = scope.components.as_slice().get(number)?;
         let places = self.places.get(component.master)?;
         places.get(name).copied()
     }

@@ -15,7 +15,7 @@ use crate::known_pins::KnownPins;
 use crate::net_table::{NetTable, NetsBegun};
 use crate::terminal::terminals;
 use crate::wiring::{is_wiring, wiring};
-use leg_design_common::{Known, section_start};
+use leg_design_common::{NetScope, section_start};
 use leg_design_records::{ENTRY_LIMIT, Terminal, Wire};
 use leg_lex::{Cursor, Entry, FaultKind, Name, NameKind, Need, ReadFault, is_keyword};
 use std::alloc::Allocator;
@@ -88,13 +88,13 @@ impl<'a, A: Allocator + Copy> Parts<'a, A> {
     fn wiring_clause(
         &mut self,
         alloc: A,
-        known: &Known<'_, 'a, A>,
+        scope: &NetScope<'_, 'a, A>,
         special: bool,
         clause: &mut Cursor<'_, 'a>,
     ) -> Result<(), ReadFault>
-        ensures { Reads (λ _. self.new) result clause.new (wiring_clause known.now special self.old clause.old) }
+        ensures { Reads (λ _. self.new) result clause.new (wiring_clause scope.now special self.old clause.old) }
     {
-        let wires = wiring(alloc, known, special, clause)?;
+        let wires = wiring(alloc, scope, special, clause)?;
         self.wires.extend_from_slice(&wires)?;
         Ok(())
     }
@@ -113,16 +113,16 @@ impl<'a, A: Allocator + Copy> Parts<'a, A> {
     fn clause(
         &mut self,
         alloc: A,
-        known: &Known<'_, 'a, A>,
+        scope: &NetScope<'_, 'a, A>,
         special: bool,
         clause: &mut Cursor<'_, 'a>,
     ) -> Result<(), ReadFault>
-        ensures { Reads (λ _. self.new) result clause.new (clause_at known.now special self.old clause.old) }
+        ensures { Reads (λ _. self.new) result clause.new (clause_at scope.now special self.old clause.old) }
     {
         if clause.is_at(b"USE") {
             self.use_clause(clause)
         } else if is_wiring(special, clause) {
-            self.wiring_clause(alloc, known, special, clause)
+            self.wiring_clause(alloc, scope, special, clause)
         } else if is_left_out(special, clause) {
             Err(clause.fault(FaultKind::Unsupported))
         } else {
@@ -135,14 +135,14 @@ impl<'a, A: Allocator + Copy> Parts<'a, A> {
     fn add(
         &mut self,
         alloc: A,
-        known: &Known<'_, 'a, A>,
+        scope: &NetScope<'_, 'a, A>,
         special: bool,
         words: &mut Cursor<'_, 'a>,
     ) -> Result<(), ReadFault>
-        ensures { Reads (λ _. self.new) result words.new (net_clause known.now special self.old words.old) }
+        ensures { Reads (λ _. self.new) result words.new (net_clause scope.now special self.old words.old) }
     {
         words.mark(b'+')?;
-        self.clause(alloc, known, special, words)
+        self.clause(alloc, scope, special, words)
     }
 }
 
@@ -150,18 +150,18 @@ impl<'a, A: Allocator + Copy> Parts<'a, A> {
 #[tactic(auto, using(crate::proofs::NetClauses::clauses_on, crate::proofs::NetClauses::clauses_end, crate::proofs::NetClauses::clauses_fail, crate::proofs::NetClauses::net_clause_shorter))]
 fn all_clauses<'a, A: Allocator + Copy>(
     alloc: A,
-    known: &Known<'_, 'a, A>,
+    scope: &NetScope<'_, 'a, A>,
     special: bool,
     words: &mut Cursor<'_, 'a>,
 ) -> Result<Parts<'a, A>, ReadFault>
-    ensures { Reads (λ p. p) result words.new (until is_over (net_clause known.now special) no_net_parts words.old) }
+    ensures { Reads (λ p. p) result words.new (until is_over (net_clause scope.now special) no_net_parts words.old) }
 {
     let mut parts = Parts {
         usage: None,
         wires: Vec::new(alloc),
     };
     'clauses: while !words.is_at_end() {
-        parts.add(alloc, known, special, words)?;
+        parts.add(alloc, scope, special, words)?;
     }
     Ok(parts)
 }
@@ -190,7 +190,7 @@ fn add_all<'a, A: Allocator + Copy>(
 #[tactic(auto, unfolding(leg_grammar::specs::Def::Terminal::terminal_form))]
 fn terminal_form<'a, A: Allocator + Copy>(
     alloc: A,
-    known: &KnownPins<'_, '_, 'a, A>,
+    scope: &KnownPins<'_, '_, 'a, A>,
     special: bool,
     others: &NetTable<'a, A>,
     name: &[u8],
@@ -199,11 +199,11 @@ fn terminal_form<'a, A: Allocator + Copy>(
 ) -> Result<(), ReadFault>
     requires { place_of name.now (net_names table.old.nets) ≡ None }
     ensures said { Reads (λ _. table.new.terminals) result words.new
-        (terminal_form known.now special name.now (table.old.nets ++ others.now) table.old.terminals words.old) }
+        (terminal_form scope.now special name.now (table.old.nets ++ others.now) table.old.terminals words.old) }
     ensures kept { OnOk result (table.new.nets ≡ table.old.nets) }
 {
     let open = words.again();
-    let said = terminals(alloc, known, special, words)?;
+    let said = terminals(alloc, scope, special, words)?;
     add_all(others, name, &said, &open, table)
 }
 
@@ -211,7 +211,7 @@ fn terminal_form<'a, A: Allocator + Copy>(
 #[tactic(auto, using(crate::proofs::NetEntries::terminals_on, crate::proofs::NetEntries::terminals_fail, crate::proofs::NetEntries::terminals_end, crate::proofs::NetEntries::terminal_form_shorter))]
 fn all_terminals<'a, A: Allocator + Copy>(
     alloc: A,
-    known: &KnownPins<'_, '_, 'a, A>,
+    scope: &KnownPins<'_, '_, 'a, A>,
     special: bool,
     others: &NetTable<'a, A>,
     name: &[u8],
@@ -220,11 +220,11 @@ fn all_terminals<'a, A: Allocator + Copy>(
 ) -> Result<(), ReadFault>
     requires { place_of name.now (net_names table.old.nets) ≡ None }
     ensures said { Reads (λ _. table.new.terminals) result words.new
-        (until at_no_terminal (terminal_form known.now special name.now (table.old.nets ++ others.now)) table.old.terminals words.old) }
+        (until at_no_terminal (terminal_form scope.now special name.now (table.old.nets ++ others.now)) table.old.terminals words.old) }
     ensures kept { OnOk result (table.new.nets ≡ table.old.nets) }
 {
     'terminals: while words.is_at(b"(") {
-        terminal_form(alloc, known, special, others, name, table, words)?;
+        terminal_form(alloc, scope, special, others, name, table, words)?;
     }
     Ok(())
 }
@@ -253,7 +253,7 @@ fn net_name<'a, A: Allocator + Copy>(
 #[tactic(auto, unfolding(leg_grammar::specs::Def::Net::net_in))]
 fn net<'a, A: Allocator + Copy>(
     alloc: A,
-    known: &KnownPins<'_, '_, 'a, A>,
+    scope: &KnownPins<'_, '_, 'a, A>,
     special: bool,
     others: &NetTable<'a, A>,
     table: &mut NetsBegun<'a, A>,
@@ -261,14 +261,14 @@ fn net<'a, A: Allocator + Copy>(
 ) -> Result<(&'a [u8], Parts<'a, A>), ReadFault>
     requires { table.old.terminals ≡ [] }
     ensures said { Means (λ n. record { name = n.0.now; usage = n.1.usage; terminals = table.new.terminals; wires = n.1.wires }) result
-        (net_in known.now special others.now table.old.nets statement.old) }
+        (net_in scope.now special others.now table.old.nets statement.old) }
     ensures kept { OnOk result (table.new.nets ≡ table.old.nets) }
     ensures new { IfOk result (λ n. place_of n.0.now (net_names table.old.nets) ≡ None) }
 {
     statement.mark(b'-')?;
     let name = net_name(table, statement)?;
-    all_terminals(alloc, known, special, others, name, table, statement)?;
-    let parts = all_clauses(alloc, known.known(), special, statement)?;
+    all_terminals(alloc, scope, special, others, name, table, statement)?;
+    let parts = all_clauses(alloc, scope.scope(), special, statement)?;
     Ok((name, parts))
 }
 
@@ -283,14 +283,14 @@ fn is_full(entries: usize, others: usize) -> bool
 #[tactic(auto, using(crate::proofs::NetEntries::too_many, crate::proofs::NetEntries::few_terminals, crate::proofs::NetEntries::few_wires), unfolding(leg_grammar::specs::Def::Net::net_entry))]
 fn entry<'a, A: Allocator + Copy>(
     alloc: A,
-    known: &KnownPins<'_, '_, 'a, A>,
+    scope: &KnownPins<'_, '_, 'a, A>,
     special: bool,
     others: &NetTable<'a, A>,
     table: &mut NetsBegun<'a, A>,
     words: &mut Cursor<'_, 'a>,
 ) -> Result<(), ReadFault>
     requires { table.old.terminals ≡ [] }
-    ensures said { Reads (λ _. table.new.nets) result words.new (net_entry known.now special others.now table.old.nets words.old) }
+    ensures said { Reads (λ _. table.new.nets) result words.new (net_entry scope.now special others.now table.old.nets words.old) }
     ensures closed { OnOk result (table.new.terminals ≡ []) }
 {
     let first = words.again();
@@ -298,7 +298,7 @@ fn entry<'a, A: Allocator + Copy>(
         return Err(first.need(FaultKind::TooMany, Need::Fewer(Entry::Net)));
     }
     let mut statement = words.statement()?;
-    let (name, parts) = net(alloc, known, special, others, table, &mut statement)?;
+    let (name, parts) = net(alloc, scope, special, others, table, &mut statement)?;
     if table.is_too_large(others, parts.wires.len()) {
         return Err(first.need(FaultKind::TooMany, Need::Fewer(Entry::NetPart)));
     }
@@ -310,16 +310,16 @@ fn entry<'a, A: Allocator + Copy>(
 #[tactic(auto, using(leg_lex::proofs::Until::ends, leg_lex::proofs::Until::goes_on, leg_lex::proofs::Until::fails, crate::proofs::NetEntries::net_entry_shortens, crate::proofs::NetEntries::net_entry_shorter))]
 fn entries<'a, A: Allocator + Copy>(
     alloc: A,
-    known: &KnownPins<'_, '_, 'a, A>,
+    scope: &KnownPins<'_, '_, 'a, A>,
     special: bool,
     others: &NetTable<'a, A>,
     words: &mut Cursor<'_, 'a>,
 ) -> Result<NetTable<'a, A>, ReadFault>
-    ensures { Reads (λ t. t) result words.new (until at_end (net_entry known.now special others.now) [] words.old) }
+    ensures { Reads (λ t. t) result words.new (until at_end (net_entry scope.now special others.now) [] words.old) }
 {
     let mut table = NetsBegun::new(alloc);
     'entries: while !words.is_at(b"END") {
-        entry(alloc, known, special, others, &mut table, words)?;
+        entry(alloc, scope, special, others, &mut table, words)?;
     }
     Ok(table.finish())
 }
@@ -327,15 +327,15 @@ fn entries<'a, A: Allocator + Copy>(
 /// The same, with an index of what the entries name, which is made first.
 fn indexed_entries<'a, A: Allocator + Copy>(
     alloc: A,
-    known: &Known<'_, 'a, A>,
+    scope: &NetScope<'_, 'a, A>,
     special: bool,
     others: &NetTable<'a, A>,
     words: &mut Cursor<'_, 'a>,
 ) -> Result<NetTable<'a, A>, ReadFault>
-    ensures { Reads (λ t. t) result words.new (until at_end (net_entry known.now special others.now) [] words.old) }
+    ensures { Reads (λ t. t) result words.new (until at_end (net_entry scope.now special others.now) [] words.old) }
 {
-    let known = KnownPins::new(alloc, known)?;
-    entries(alloc, &known, special, others, words)
+    let scope = KnownPins::new(alloc, scope)?;
+    entries(alloc, &scope, special, others, words)
 }
 
 /// The keyword of a section of nets.
@@ -349,16 +349,16 @@ fn section_word(special: bool) -> &'static [u8]
 #[tactic(auto, unfolding(leg_grammar::specs::Def::Net::nets_at, leg_grammar::specs::Def::Section::section_at))]
 pub fn nets<'a, A: Allocator + Copy>(
     alloc: A,
-    known: &Known<'_, 'a, A>,
+    scope: &NetScope<'_, 'a, A>,
     special: bool,
     others: &NetTable<'a, A>,
     words: &mut Cursor<'_, 'a>,
 ) -> Result<NetTable<'a, A>, ReadFault>
-    ensures { Reads (λ t. t) result words.new (nets_at known.now special others.now words.old) }
+    ensures { Reads (λ t. t) result words.new (nets_at scope.now special others.now words.old) }
 {
     section_start(section_word(special), words)?;
     let start = words.again();
-    let table = match indexed_entries(alloc, known, special, others, words) {
+    let table = match indexed_entries(alloc, scope, special, others, words) {
         Ok(table) => table,
         Err(fault) => return Err(start.with_first_entry(fault)),
     };

@@ -9,7 +9,7 @@ ghost use Rattle.leg_design_records.specs.Wires.{is_straight, default_extension}
 ghost use Rattle.leg_design_nets.specs.Steps.Walk.{behind, wires_with, walked_to, walked_past};
 
 use crate::coordinate::coordinate_or;
-use leg_design_common::Known;
+use leg_design_common::NetScope;
 use leg_design_common::layers::{is_routing, width_of_layer};
 use leg_design_records::Wire;
 use leg_geom::{Point, Rect};
@@ -176,14 +176,14 @@ fn has_layer(layer: usize, shapes: &[Shape]) -> bool
 /// hasn't this layer `ViaLayer`.
 #[tactic(auto, using(crate::proofs::ViaLayers::across_lacks, crate::proofs::ViaLayers::across_is), unfolding(leg_grammar::specs::Def::Path::across))]
 fn across<A: Allocator + Copy>(
-    known: &Known<'_, '_, A>,
+    scope: &NetScope<'_, '_, A>,
     number: usize,
     layer: usize,
     place: FaultPlace<'_>,
 ) -> Result<usize, ReadFault>
-    ensures { Means (λ other. other) result (across known.now number layer) }
+    ensures { Means (λ other. other) result (across scope.now number layer) }
 {
-    let Some(via) = known.via_numbered(number) else {
+    let Some(via) = scope.via_numbered(number) else {
         return Err(place.need(FaultKind::UnknownName, Need::Known(NameKind::Via)));
     };
     if !via.good {
@@ -193,7 +193,7 @@ fn across<A: Allocator + Copy>(
     if !has_layer(layer, shapes) {
         return Err(place.fault(FaultKind::ViaLayer));
     }
-    match other_layer(known.library, layer, shapes) {
+    match other_layer(scope.library, layer, shapes) {
         Some(other) => Ok(other),
         None => Err(place.fault(FaultKind::ViaLayer)),
     }
@@ -249,15 +249,15 @@ impl<A: Allocator + Copy> Walk<A> {
     #[tactic(auto, unfolding(crate::specs::Steps::Walk::walked_to))]
     fn go_to(
         &mut self,
-        known: &Known<'_, '_, A>,
+        scope: &NetScope<'_, '_, A>,
         written: Option<i64>,
         to: Point,
         extension: Option<i64>,
         place: FaultPlace<'_>,
     ) -> Result<(), ReadFault>
-        ensures { Means (λ _. self.new) result (walked_to known.now written to extension self.old) }
+        ensures { Means (λ _. self.new) result (walked_to scope.now written to extension self.old) }
     {
-        let segment = self.segment_to(known.library, written, to, extension, place)?;
+        let segment = self.segment_to(scope.library, written, to, extension, place)?;
         self.wires.push(segment)?;
         self.at = to;
         self.extension = extension;
@@ -268,12 +268,12 @@ impl<A: Allocator + Copy> Walk<A> {
     #[tactic(auto, unfolding(crate::specs::Steps::Walk::walked_past))]
     fn go_past(
         &mut self,
-        known: &Known<'_, '_, A>,
+        scope: &NetScope<'_, '_, A>,
         written: Option<i64>,
         item: &ItemAt<'_>,
         later: &[ItemAt<'_>],
     ) -> Result<(), ReadFault>
-        ensures { Means (λ _. self.new) result (walked_past known.now written item.now later.now self.old) }
+        ensures { Means (λ _. self.new) result (walked_past scope.now written item.now later.now self.old) }
     {
         match item.item() {
             Item::ToPoint { x, y, extension } => {
@@ -282,7 +282,7 @@ impl<A: Allocator + Copy> Walk<A> {
                     return Ok(());
                 }
                 self.go_to(
-                    known,
+                    scope,
                     written,
                     to,
                     extension_at(to, extension, later),
@@ -290,7 +290,7 @@ impl<A: Allocator + Copy> Walk<A> {
                 )
             }
             Item::AtVia(via) => {
-                let other = across(known, via, self.layer, item.place())?;
+                let other = across(scope, via, self.layer, item.place())?;
                 self.wires.push(Wire::ViaAt { via, at: self.at })?;
                 self.layer = other;
                 Ok(())
@@ -310,14 +310,14 @@ impl<A: Allocator + Copy> Walk<A> {
     #[tactic(auto, using(crate::proofs::Walks::walk_on, crate::proofs::Walks::walk_fails, crate::proofs::Walks::walk_ends))]
     fn go_past_all(
         &mut self,
-        known: &Known<'_, '_, A>,
+        scope: &NetScope<'_, '_, A>,
         written: Option<i64>,
         items: &[ItemAt<'_>],
     ) -> Result<(), ReadFault>
-        ensures { Means (λ _. self.new.wires) result (wires_with known.now written self.old items.now) }
+        ensures { Means (λ _. self.new.wires) result (wires_with scope.now written self.old items.now) }
     {
         for (i, item) in items.iter().enumerate() {
-            self.go_past(known, written, item, &items[i + 1..])?;
+            self.go_past(scope, written, item, &items[i + 1..])?;
         }
         Ok(())
     }
@@ -326,14 +326,14 @@ impl<A: Allocator + Copy> Walk<A> {
 /// These wires and those of a path that begins at this point with this extension.
 pub(crate) fn path_wires<A: Allocator + Copy>(
     wires: Vec<Wire, A>,
-    known: &Known<'_, '_, A>,
+    scope: &NetScope<'_, '_, A>,
     written: Option<i64>,
     layer: usize,
     first: Point,
     given: Option<i64>,
     items: &[ItemAt<'_>],
 ) -> Result<Vec<Wire, A>, ReadFault>
-    ensures { Means (λ v. v.items) result (behind wires.items (path_wires known.now written layer first given items.now)) }
+    ensures { Means (λ v. v.items) result (behind wires.items (path_wires scope.now written layer first given items.now)) }
 {
     let mut walk = Walk {
         layer,
@@ -341,6 +341,6 @@ pub(crate) fn path_wires<A: Allocator + Copy>(
         extension: extension_at(first, given, items),
         wires,
     };
-    walk.go_past_all(known, written, items)?;
+    walk.go_past_all(scope, written, items)?;
     Ok(walk.wires)
 }

@@ -7,7 +7,7 @@ ghost use Rattle.leg_grammar.specs.Def.PathItem.{count_at, coordinate_at, extens
 
 use crate::coordinate::{point, read_coordinate};
 use crate::path::ItemAt;
-use leg_design_common::Known;
+use leg_design_common::NetScope;
 use leg_design_common::placement::rect_between;
 use leg_geom::Point;
 use leg_grammar::{Coordinate, Item};
@@ -146,17 +146,17 @@ fn kind_of_wiring_word(word: &[u8]) -> FaultKind {
 /// `Unsupported`, as an orientation is.
 #[tactic(auto, unfolding(leg_grammar::specs::Def::PathItem::via_item))]
 fn via_item<A: Allocator + Copy>(
-    known: &Known<'_, '_, A>,
+    scope: &NetScope<'_, '_, A>,
     words: &mut Cursor<'_, '_>,
 ) -> Result<Item, ReadFault>
-    ensures { Reads (λ i. i) result words.new (via_item known.now words.old) }
+    ensures { Reads (λ i. i) result words.new (via_item scope.now words.old) }
 {
     let first = words.again();
     let name = words.name()?;
     if is_wiring_word(name) {
         return Err(first.fault(kind_of_wiring_word(name)));
     }
-    let Some(number) = known.via_named(name) else {
+    let Some(number) = scope.via_named(name) else {
         return Err(first.need(FaultKind::UnknownName, Need::Known(NameKind::Via)));
     };
     past_north(words)?;
@@ -166,33 +166,33 @@ fn via_item<A: Allocator + Copy>(
 /// An item of a path. Rectangles are in `NETS` only.
 #[tactic(auto, unfolding(leg_grammar::specs::Def::PathItem::item_at))]
 fn item<A: Allocator + Copy>(
-    known: &Known<'_, '_, A>,
+    scope: &NetScope<'_, '_, A>,
     special: bool,
     words: &mut Cursor<'_, '_>,
 ) -> Result<Item, ReadFault>
-    ensures { Reads (λ i. i) result words.new (item_at known.now special words.old) }
+    ensures { Reads (λ i. i) result words.new (item_at scope.now special words.old) }
 {
     if words.is_at(b"(") {
         point_item(words)
     } else if words.is_at(b"RECT") && !special {
         rect_item(words)
     } else {
-        via_item(known, words)
+        via_item(scope, words)
     }
 }
 
 /// One more item.
 #[tactic(auto, unfolding(leg_grammar::specs::Def::PathItem::one_item))]
 fn one_item<'t, A: Allocator + Copy>(
-    known: &Known<'_, '_, A>,
+    scope: &NetScope<'_, '_, A>,
     special: bool,
     items: &mut Vec<ItemAt<'t>, A>,
     words: &mut Cursor<'t, '_>,
 ) -> Result<(), ReadFault>
-    ensures { Reads (λ _. items.new.items) result words.new (one_item known.now special items.old.items words.old) }
+    ensures { Reads (λ _. items.new.items) result words.new (one_item scope.now special items.old.items words.old) }
 {
     let place = words.place();
-    let item = item(known, special, words)?;
+    let item = item(scope, special, words)?;
     items.push(ItemAt::new(item, place))?;
     Ok(())
 }
@@ -208,15 +208,15 @@ fn is_at_path_end(words: &Cursor<'_, '_>) -> bool
 /// Adds the items of a path. Where one isn't read, those before it stay.
 #[tactic(auto, using(leg_lex::proofs::Until::ends, leg_lex::proofs::Until::goes_on, leg_lex::proofs::Until::fails, crate::proofs::PathItems::one_item_shortens, crate::proofs::PathItems::one_item_shorter))]
 pub(crate) fn add_items<'t, A: Allocator + Copy>(
-    known: &Known<'_, '_, A>,
+    scope: &NetScope<'_, '_, A>,
     special: bool,
     items: &mut Vec<ItemAt<'t>, A>,
     words: &mut Cursor<'t, '_>,
 ) -> Result<(), ReadFault>
-    ensures { Reads (λ _. items.new.items) result words.new (until at_path_end (one_item known.now special) items.old.items words.old) }
+    ensures { Reads (λ _. items.new.items) result words.new (until at_path_end (one_item scope.now special) items.old.items words.old) }
 {
     'items: while !is_at_path_end(words) {
-        one_item(known, special, items, words)?;
+        one_item(scope, special, items, words)?;
     }
     Ok(())
 }

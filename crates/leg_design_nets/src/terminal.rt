@@ -5,7 +5,7 @@ ghost use Rattle.leg_lex.specs.Words.{Reads, Means, is_at};
 ghost use Rattle.leg_grammar.specs.Def.Terminal.{component_terminal, pin_terminal, one_terminal_at, all_terminals_at, past_synthesized, terminals_at};
 
 use crate::known_pins::KnownPins;
-use leg_design_common::Known;
+use leg_design_common::NetScope;
 use leg_design_records::{Component, Terminal};
 use leg_lex::{Cursor, FaultKind, NameKind, Need, ReadFault, is_keyword};
 use std::alloc::Allocator;
@@ -21,19 +21,19 @@ fn pin_of(components: &[Component<'_>], number: usize) -> Need {
 /// The component of this name, with its pin of this name. The fault of an unknown name is at the words `of_component` or
 /// `of_pin`.
 fn component_terminal<A: Allocator + Copy>(
-    known: &KnownPins<'_, '_, '_, A>,
+    scope: &KnownPins<'_, '_, '_, A>,
     component: &[u8],
     pin: &[u8],
     of_component: &Cursor<'_, '_>,
     of_pin: &Cursor<'_, '_>,
 ) -> Result<Terminal, ReadFault>
-    ensures { Means (λ t. t) result (component_terminal known.now component.now pin.now) }
+    ensures { Means (λ t. t) result (component_terminal scope.now component.now pin.now) }
 {
-    let components = known.known().components;
+    let components = scope.scope().components;
     let Some(c) = components.place_of(component) else {
         return Err(of_component.need(FaultKind::UnknownName, Need::Known(NameKind::Component)));
     };
-    let Some(pin) = known.pin_of_numbered(c, pin) else {
+    let Some(pin) = scope.pin_of_numbered(c, pin) else {
         let need = pin_of(components.as_slice(), c);
         return Err(of_pin.need(FaultKind::UnknownName, need));
     };
@@ -45,13 +45,13 @@ fn component_terminal<A: Allocator + Copy>(
 
 /// The pin of the design of this name. The fault of an unknown name is at the word `of_pin`.
 fn pin_terminal<A: Allocator + Copy>(
-    known: &Known<'_, '_, A>,
+    scope: &NetScope<'_, '_, A>,
     pin: &[u8],
     of_pin: &Cursor<'_, '_>,
 ) -> Result<Terminal, ReadFault>
-    ensures { Means (λ t. t) result (pin_terminal known.now pin.now) }
+    ensures { Means (λ t. t) result (pin_terminal scope.now pin.now) }
 {
-    let Some(p) = known.pins.place_of(pin) else {
+    let Some(p) = scope.pins.place_of(pin) else {
         return Err(of_pin.need(FaultKind::UnknownName, Need::Known(NameKind::Pin)));
     };
     Ok(Terminal::Pin(p as u32))
@@ -60,19 +60,19 @@ fn pin_terminal<A: Allocator + Copy>(
 /// `component pin`, or `PIN` and a pin of the design.
 #[tactic(auto, unfolding(leg_grammar::specs::Def::Terminal::one_terminal_at))]
 fn one_terminal<A: Allocator + Copy>(
-    known: &KnownPins<'_, '_, '_, A>,
+    scope: &KnownPins<'_, '_, '_, A>,
     words: &mut Cursor<'_, '_>,
 ) -> Result<Terminal, ReadFault>
-    ensures { Reads (λ t. t ∷ []) result words.new (one_terminal_at known.now words.old) }
+    ensures { Reads (λ t. t ∷ []) result words.new (one_terminal_at scope.now words.old) }
 {
     let of_component = words.again();
     let component = words.name()?;
     let of_pin = words.again();
     let pin = words.name()?;
     if is_keyword(b"PIN", component) {
-        pin_terminal(known.known(), pin, &of_pin)
+        pin_terminal(scope.scope(), pin, &of_pin)
     } else {
-        component_terminal(known, component, pin, &of_component, &of_pin)
+        component_terminal(scope, component, pin, &of_component, &of_pin)
     }
 }
 
@@ -80,14 +80,14 @@ fn one_terminal<A: Allocator + Copy>(
 #[tactic(auto, unfolding(leg_grammar::specs::Def::Terminal::all_terminals_at))]
 fn all_terminals<A: Allocator + Copy>(
     alloc: A,
-    known: &KnownPins<'_, '_, '_, A>,
+    scope: &KnownPins<'_, '_, '_, A>,
     words: &mut Cursor<'_, '_>,
 ) -> Result<Vec<Terminal, A>, ReadFault>
-    ensures { Reads (λ v. v.items) result words.new (all_terminals_at known.now words.old) }
+    ensures { Reads (λ v. v.items) result words.new (all_terminals_at scope.now words.old) }
 {
     words.mark(b'*')?;
     let name = words.name()?;
-    let terminals = known.pins_of_all(alloc, name)?;
+    let terminals = scope.pins_of_all(alloc, name)?;
     Ok(terminals)
 }
 
@@ -106,18 +106,18 @@ fn past_synthesized(words: &mut Cursor<'_, '_>) -> Result<(), ReadFault>
 /// What is in a pair of parentheses, before `+ SYNTHESIZED`.
 fn named<A: Allocator + Copy>(
     alloc: A,
-    known: &KnownPins<'_, '_, '_, A>,
+    scope: &KnownPins<'_, '_, '_, A>,
     special: bool,
     words: &mut Cursor<'_, '_>,
 ) -> Result<Vec<Terminal, A>, ReadFault>
     ensures { Reads (λ v. v.items) result words.new
-        (if special && is_at (codes "*") words.old then all_terminals_at known.now words.old else one_terminal_at known.now words.old) }
+        (if special && is_at (codes "*") words.old then all_terminals_at scope.now words.old else one_terminal_at scope.now words.old) }
 {
     if special && words.is_at(b"*") {
-        return all_terminals(alloc, known, words);
+        return all_terminals(alloc, scope, words);
     }
     let mut terminals = Vec::new(alloc);
-    terminals.push(one_terminal(known, words)?)?;
+    terminals.push(one_terminal(scope, words)?)?;
     Ok(terminals)
 }
 
@@ -125,14 +125,14 @@ fn named<A: Allocator + Copy>(
 #[tactic(auto, unfolding(leg_grammar::specs::Def::Terminal::terminals_at))]
 pub(crate) fn terminals<A: Allocator + Copy>(
     alloc: A,
-    known: &KnownPins<'_, '_, '_, A>,
+    scope: &KnownPins<'_, '_, '_, A>,
     special: bool,
     words: &mut Cursor<'_, '_>,
 ) -> Result<Vec<Terminal, A>, ReadFault>
-    ensures { Reads (λ v. v.items) result words.new (terminals_at known.now special words.old) }
+    ensures { Reads (λ v. v.items) result words.new (terminals_at scope.now special words.old) }
 {
     words.mark(b'(')?;
-    let terminals = named(alloc, known, special, words)?;
+    let terminals = named(alloc, scope, special, words)?;
     past_synthesized(words)?;
     words.mark(b')')?;
     Ok(terminals)

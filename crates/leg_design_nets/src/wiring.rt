@@ -9,7 +9,7 @@ ghost use Rattle.leg_design_records.specs.Wires.{is_even};
 
 use crate::path::{ItemAt, half, path_wires};
 use crate::path_item::{add_items, count, first_point};
-use leg_design_common::Known;
+use leg_design_common::NetScope;
 use leg_design_common::layers::is_routing;
 use leg_design_records::Wire;
 use leg_lex::{Cursor, FaultKind, NameKind, Need, ReadFault};
@@ -118,20 +118,20 @@ fn written(special: bool, words: &mut Cursor<'_, '_>) -> Result<Option<i64>, Rea
 /// in `items`, whose room serves one path after the other.
 #[tactic(auto, unfolding(leg_grammar::specs::Def::Wiring::path_at))]
 fn path<'t, A: Allocator + Copy>(
-    known: &Known<'_, '_, A>,
+    scope: &NetScope<'_, '_, A>,
     special: bool,
     wires: Vec<Wire, A>,
     items: &mut Vec<ItemAt<'t>, A>,
     words: &mut Cursor<'t, '_>,
 ) -> Result<Vec<Wire, A>, ReadFault>
-    ensures { Reads (λ v. v.items) result words.new (path_behind known.now special wires.items words.old) }
+    ensures { Reads (λ v. v.items) result words.new (path_behind scope.now special wires.items words.old) }
 {
-    let layer = routing(known.library, words)?;
+    let layer = routing(scope.library, words)?;
     let written = written(special, words)?;
     let (first, given) = first_point(words)?;
     items.clear();
-    let read = add_items(known, special, items, words);
-    let wires = path_wires(wires, known, written, layer, first, given, items);
+    let read = add_items(scope, special, items, words);
+    let wires = path_wires(wires, scope, written, layer, first, given, items);
     match (read, wires) {
         (Ok(()), wires) => wires,
         (Err(fault), Err(earlier)) if fault.kind != FaultKind::Memory => Err(earlier),
@@ -142,32 +142,32 @@ fn path<'t, A: Allocator + Copy>(
 /// `NEW` and the wires of one more path.
 #[tactic(auto, unfolding(leg_grammar::specs::Def::Wiring::new_path))]
 fn new_path<'t, A: Allocator + Copy>(
-    known: &Known<'_, '_, A>,
+    scope: &NetScope<'_, '_, A>,
     special: bool,
     wires: Vec<Wire, A>,
     items: &mut Vec<ItemAt<'t>, A>,
     words: &mut Cursor<'t, '_>,
 ) -> Result<Vec<Wire, A>, ReadFault>
-    ensures { Reads (λ v. v.items) result words.new (new_path known.now special wires.items words.old) }
+    ensures { Reads (λ v. v.items) result words.new (new_path scope.now special wires.items words.old) }
 {
     words.keyword(b"NEW")?;
-    path(known, special, wires, items, words)
+    path(scope, special, wires, items, words)
 }
 
 /// The wires of every path that `NEW` joins to the ones before.
 #[tactic(auto, using(leg_lex::proofs::Until::ends, leg_lex::proofs::Until::goes_on, leg_lex::proofs::Until::fails, crate::proofs::Wirings::new_path_shortens, crate::proofs::Wirings::new_path_shorter))]
 fn new_paths<'t, A: Allocator + Copy>(
-    known: &Known<'_, '_, A>,
+    scope: &NetScope<'_, '_, A>,
     special: bool,
     first: Vec<Wire, A>,
     items: &mut Vec<ItemAt<'t>, A>,
     words: &mut Cursor<'t, '_>,
 ) -> Result<Vec<Wire, A>, ReadFault>
-    ensures { Reads (λ v. v.items) result words.new (until at_no_new (new_path known.now special) first.items words.old) }
+    ensures { Reads (λ v. v.items) result words.new (until at_no_new (new_path scope.now special) first.items words.old) }
 {
     let mut wires = first;
     'paths: while words.is_at(b"NEW") {
-        wires = new_path(known, special, wires, items, words)?;
+        wires = new_path(scope, special, wires, items, words)?;
     }
     Ok(wires)
 }
@@ -176,15 +176,15 @@ fn new_paths<'t, A: Allocator + Copy>(
 #[tactic(auto, unfolding(leg_grammar::specs::Def::Wiring::paths_at))]
 fn paths<A: Allocator + Copy>(
     alloc: A,
-    known: &Known<'_, '_, A>,
+    scope: &NetScope<'_, '_, A>,
     special: bool,
     words: &mut Cursor<'_, '_>,
 ) -> Result<Vec<Wire, A>, ReadFault>
-    ensures { Reads (λ v. v.items) result words.new (paths_at known.now special words.old) }
+    ensures { Reads (λ v. v.items) result words.new (paths_at scope.now special words.old) }
 {
     let mut items = Vec::new(alloc);
-    let wires = path(known, special, Vec::new(alloc), &mut items, words)?;
-    new_paths(known, special, wires, &mut items, words)
+    let wires = path(scope, special, Vec::new(alloc), &mut items, words)?;
+    new_paths(scope, special, wires, &mut items, words)
 }
 
 /// Whether a clause contains wiring.
@@ -216,12 +216,12 @@ fn wiring_start(clause: &mut Cursor<'_, '_>) -> Result<(), ReadFault>
 #[tactic(auto, unfolding(leg_grammar::specs::Def::Wiring::wiring_at))]
 pub(crate) fn wiring<A: Allocator + Copy>(
     alloc: A,
-    known: &Known<'_, '_, A>,
+    scope: &NetScope<'_, '_, A>,
     special: bool,
     clause: &mut Cursor<'_, '_>,
 ) -> Result<Vec<Wire, A>, ReadFault>
-    ensures { Reads (λ v. v.items) result clause.new (wiring_at known.now special clause.old) }
+    ensures { Reads (λ v. v.items) result clause.new (wiring_at scope.now special clause.old) }
 {
     wiring_start(clause)?;
-    paths(alloc, known, special, clause)
+    paths(alloc, scope, special, clause)
 }

@@ -25,9 +25,9 @@ IsTerminal design (Comp c k) =
 IsTerminal design (Pin p) = p < length design.pins
 
 -- The width of a segment: that of the layer in NETS, and in SPECIALNETS an even number above 0.
-abbrev pub IsWidth : LibraryModel → Bool → ℕ → ℤ → Type 0
-IsWidth library false layer width = width_of_layer library layer ≡ Some width
-IsWidth library true layer width = IsNumber width × (pos 0 <ℤ width) × IsTrue (is_even width)
+abbrev pub IsWireWidth : LibraryModel → Bool → ℕ → ℤ → Type 0
+IsWireWidth library false layer width = width_of_layer library layer ≡ Some width
+IsWireWidth library true layer width = IsNumber width × (pos 0 <ℤ width) × IsTrue (is_even width)
 
 -- what default_extension asks for: in SPECIALNETS that a width is written
 abbrev pub written : Bool → Option ℤ
@@ -46,7 +46,7 @@ pub record IsSegment (library : LibraryModel) (special : Bool) (layer : ℕ) (fr
   pub to_ : IsPosition to
   pub straight : IsTrue (is_straight from to)
   pub long : from ≢ to
-  pub width_ : IsWidth library special layer width
+  pub width_ : IsWireWidth library special layer width
   pub from_extension : IsExtension library special layer ext_from
   pub to_extension : IsExtension library special layer ext_to
 

@@ -14,7 +14,7 @@ use Rattle.leg_design_records.specs.declared.records.Wire.{Wire}
 use Rattle.leg_design_records.specs.declared.records.Wire.TheVariants.{Segment, ViaAt, Patch}
 use Rattle.leg_design_records.specs.Layers.{wire_width, width_of_layer}
 use Rattle.leg_design_records.specs.Wires.{is_straight, default_extension, is_even}
-use Rattle.leg_design_records.specs.WellFormedNets.{IsWidth, IsExtension, IsWire, written}
+use Rattle.leg_design_records.specs.WellFormedNets.{IsWireWidth, IsExtension, IsWire, written}
 use Rattle.leg_lib_records.specs.Sound.{HasWidth, IsSoundLayer, IsSound}
 use Rattle.leg_flat.specs.Steps.Bounds.{IsMetalReach, IsWidthWithin}
 use Rattle.leg_flat.specs.Steps.AddedMetal.{IsWireWithin}
@@ -42,7 +42,8 @@ layer_width library layer width sound is = by (slice_get library.layers layer) r
   by None none = absurd (let e : ⊥ = cc (rw none at is) in e)
   by (Some l) there = width_of_kind l.kind width (all_at IsSoundLayer library.layers layer l sound.layers there).width (rw there at is)
 
-width_within : (library : LibraryModel) (special : Bool) (layer : ℕ) (width : ℤ) → IsSound library → IsWidth library special layer width → IsWidthWithin width
+width_within : (library : LibraryModel) (special : Bool) (layer : ℕ) (width : ℤ) → IsSound library → IsWireWidth library special layer width
+    → IsWidthWithin width
 width_within library false layer width sound is = layer_width library layer width sound is
 width_within library true layer width sound is = record { some = is.1; even = even_of_test width is.2; within = is.0 }
 
@@ -52,13 +53,13 @@ half_reach (pos a) is =
     record { forth = omega (arith, ints); within = omega (arith, ints) }
 half_reach (negsuc a) is = absurd (let some = is.some in let e : ⊥ = omega (arith, ints) in e)
 
-default_reach : (library : LibraryModel) (special : Bool) (layer : ℕ) (width : ℤ) → IsSound library → IsWidth library special layer width
+default_reach : (library : LibraryModel) (special : Bool) (layer : ℕ) (width : ℤ) → IsSound library → IsWireWidth library special layer width
     → IsMetalReach (default_extension library (written special) layer)
 unfolding default_extension
 default_reach library false layer width sound is = rw is (half_reach width (layer_width library layer width sound is))
 default_reach library true layer width sound is = record { forth = omega (arith, ints); within = omega arith }
 
-reach_within : (library : LibraryModel) (special : Bool) (layer : ℕ) (width ext : ℤ) → IsSound library → IsWidth library special layer width
+reach_within : (library : LibraryModel) (special : Bool) (layer : ℕ) (width ext : ℤ) → IsSound library → IsWireWidth library special layer width
     → IsExtension library special layer ext → IsMetalReach ext
 reach_within library special layer width ext sound is (inl given) = record { forth = given.1; within = given.0 }
 reach_within library special layer width ext sound is (inr default) = rw default (default_reach library special layer width sound is)

@@ -4,7 +4,7 @@ pub mod Clause
 pub mod Section
 pub mod Placement
 pub mod Layers
-pub mod Namespace
+pub mod NetScope
 pub mod Header
 pub mod Die
 pub mod Row

@@ -1,6 +1,7 @@
 -- What a list contains.
 use Rattle.std.proofs.Common.{◌≡◌, zero, suc, Bool, true, false, cond, List, [], ◌∷◌, map, All, Contains, ◌⊎◌, inl, inr, refl, ap, arith}
 use Rattle.std.specs.List.{filter}
+use Rattle.std.proofs.lemmas.Bool.{cases_Bool}
 use Rattle.std.proofs.lemmas.List.Elements.{All-cons, All-nil}
 
 module _ {X : Type 0} where
@@ -31,6 +32,18 @@ module _ {X : Type 0} where
     behind : (b : Bool) → Contains (filter test xs) x → Contains (cond b (y ∷ filter test xs) (filter test xs)) x
     behind true has = Contains-there y (filter test xs) x has
     behind false has = has
+
+  -- and nothing else stands there
+  pub Contains-from_filter : (test : X → Bool) (xs : List X) (x : X) → Contains (filter test xs) x → Contains xs x × (test x ≡ true)
+  Contains-from_filter test [] x c = absurd (Contains-nil x c)
+  Contains-from_filter test (y ∷ ys) x c =
+      elim (cases_Bool (test y)) [
+        | inl kept ↦ elim (Contains-cons_cases y (filter test ys) x (rw kept at c)) [
+          | inl here ↦ (rw (← here) (Contains-here y ys), rw (← here) kept)
+          | inr later ↦ let rest = Contains-from_filter test ys x later in (Contains-there y ys x rest.0, rest.1)
+        ]
+        | inr dropped ↦ let rest = Contains-from_filter test ys x (rw dropped at c) in (Contains-there y ys x rest.0, rest.1)
+      ]
 
   -- what holds of whatever a list contains holds of all of it
   pub All-from_contains : (P : X → Type 0) (xs : List X) → ((x : X) → Contains xs x → P x) → All P xs

@@ -7,3 +7,4 @@ pub mod Contained
 pub mod Places
 pub mod Rising
 pub mod Lookups
+pub mod Ranges

@@ -1,8 +1,10 @@
 -- What stands at the places of a list, of one list behind another, of a list that is mapped, and of one in which an element is another.
-use Rattle.std.proofs.Common.{◌≡◌, ◌≢◌, ℕ, zero, suc, ◌+◌, ◌<◌, List, [], ◌∷◌, ◌++◌, length, map, set, get_or, slice_get, slice_set, All, Contains, Some, option_map, ◌⊎◌, inl, inr, refl, sym, ap, ◌∙◌, zero-add, arith}
+use Rattle.std.proofs.Common.{◌≡◌, ◌≢◌, ℕ, zero, suc, ◌+◌, ◌<◌, List, [], ◌∷◌, ◌++◌, length, map, set, get_or, slice_get, slice_set, All, Contains, Option, None, Some, Bor, nat_lt, option_map, ◌⊎◌, inl, inr, refl, sym, ap, ◌∙◌, zero-add, arith}
 use Rattle.std.specs.List.{range_with_len}
+use Rattle.std.specs.Option.{is_some, IfSome}
+use Rattle.std.proofs.lemmas.Bool.Decides.{nat_tests}
 use Rattle.std.proofs.lemmas.List.FromFn.{length-range_with_len, get_or-range_with_len}
-use Rattle.std.proofs.lemmas.Option.{slice_get_within, slice_get-get_or, slice_get-map, slice_get_read, get_or_from_slice_get, same_Some, none-some}
+use Rattle.std.proofs.lemmas.Option.{slice_get_within, slice_get_past, slice_get-get_or, slice_get-map, slice_get_read, get_or_from_slice_get, same_Some, none-some}
 
 -- a place at which the list has the element
 pub record HasPlace {X : Type 0} (xs : List X) (x : X) : Type 0 where
@@ -31,6 +33,12 @@ all_read P xs i x each less is = all_at P xs i x each (slice_get_read xs (length
 -- an element as a loop knows it, of a list that is another one
 pub read_at : {X : Type 0} (items xs : List X) (i : ℕ) (x : X) → items ≡ xs → i < length items → x ≡ get_or items i x → slice_get xs i ≡ Some x
 read_at items xs i x same less is = rw (← same) (slice_get_read items (length items) i x refl less is)
+
+-- what a slice's get answers is the element of that place
+pub got_is : {X : Type 0} (xs : List X) (i : ℕ) (got : Option (Bor X)) → is_some got ≡ nat_lt i (length xs) → IfSome got (λ x. x.now ≡ get_or xs i x.now)
+    → option_map (λ x. x.now) got ≡ slice_get xs i
+got_is xs i None found is = sym (slice_get_past xs i (grind (arith, nat_tests)))
+got_is xs i (Some x) found is = sym (slice_get_read xs (length xs) i x.now refl (grind (arith, nat_tests)) is)
 
 -- the only element of a list
 pub the_only : {X : Type 0} (x y : X) → Contains (x ∷ []) y → x ≡ y
@@ -63,6 +71,18 @@ in_first (x ∷ xs) ys (suc i) less = in_first xs ys i (omega arith)
 pub get_last : {X : Type 0} (xs : List X) (x : X) → slice_get (xs ++ x ∷ []) (length xs) ≡ Some x
 get_last [] x = refl
 get_last (y ∷ xs) x = get_last xs x
+
+-- an element of a list with one more behind it: one of the others, or the last
+pub last_or_before : {X : Type 0} (xs : List X) (last : X) (k : ℕ) (x : X) → slice_get (xs ++ last ∷ []) k ≡ Some x
+    → (slice_get xs k ≡ Some x) ⊎ ((k ≡ length xs) × (x ≡ last))
+last_or_before [] last zero x at = inr (refl, sym (same_Some last x at))
+last_or_before [] last (suc k) x at = absurd (none-some x at)
+last_or_before (y ∷ xs) last zero x at = inl at
+last_or_before (y ∷ xs) last (suc k) x at =
+    elim (last_or_before xs last k x at) [
+      | inl before ↦ inl before
+      | inr here ↦ inr (ap suc here.0, here.1)
+    ]
 
 -- an element of the second
 pub get_second : {X : Type 0} (xs ys : List X) (k : ℕ) → slice_get (xs ++ ys) (length xs + k) ≡ slice_get ys k

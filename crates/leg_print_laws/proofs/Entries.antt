@@ -13,12 +13,12 @@ use Rattle.leg_grammar.specs.Def.Component.{component_entry}
 use Rattle.leg_grammar.specs.Def.Pin.{pin_entry}
 use Rattle.leg_grammar.specs.Def.Blockage.{blockage_entry}
 use Rattle.leg_grammar.specs.Def.Net.{net_entry}
+use Rattle.leg_grammar.specs.Def.Parts.{net_scope}
 use Rattle.leg_output.specs.Text.Vias.{via_words}
 use Rattle.leg_output.specs.Text.Components.{component_words}
 use Rattle.leg_output.specs.Text.Pins.{pin_words}
 use Rattle.leg_output.specs.Text.Blockages.{blockage_words}
 use Rattle.leg_output.specs.Text.Nets.{net_text}
-use Rattle.leg_print_laws.specs.NetScope.{known_of}
 use Rattle.leg_print_laws.specs.PrintedNames.{StayOne, via_entry_names, component_entry_names, pin_entry_names, blockage_entry_names, net_entry_names}
 use Rattle.leg_print_laws.specs.Forms.{DenotesForm}
 use Rattle.leg_print_laws.proofs.NumberedNames.{not_before, middle, fewer_before}
@@ -63,9 +63,9 @@ module _ (design : DesignModel) (sound : IsSound design.library) (well : IsWellF
   has = record { sound = sound; vias = well.vias; components = well.components; pins = well.pins }
 
   pub net_said : (before after : List NetModel) (net : NetModel) → design.nets ≡ before ++ (net ∷ after) → StayOne (net_entry_names design net)
-      → DenotesForm (net_entry (known_of design) false design.special before) (net_text design false net) (before ++ net ∷ [])
+      → DenotesForm (net_entry (net_scope design) false design.special before) (net_text design false net) (before ++ net ∷ [])
   net_said before after net is one = one_net_line design has false design.nets design.special (nets_are design has well.nets) before net after is one
 
   pub special_said : (before after : List NetModel) (net : NetModel) → design.special ≡ before ++ (net ∷ after) → StayOne (net_entry_names design net)
-      → DenotesForm (net_entry (known_of design) true [] before) (net_text design true net) (before ++ net ∷ [])
+      → DenotesForm (net_entry (net_scope design) true [] before) (net_text design true net) (before ++ net ∷ [])
   special_said before after net is one = one_net_line design has true design.special [] (special_are design has well.nets) before net after is one

@@ -16,7 +16,7 @@ use Rattle.leg_lib_records.specs.GoodVia.{use_of, uses_of, holds_origin, parts_o
 use Rattle.leg_lib_records.specs.Records.{LibraryModel, ViaModel}
 use Rattle.leg_design_records.specs.Layers.{is_routing, wire_width}
 use Rattle.leg_design_records.proofs.SameTerminal.{Passes, passes_from, some_passes, number_itself}
-use Rattle.leg_grammar.specs.Def.Namespace.{KnownModel, via_numbered}
+use Rattle.leg_grammar.specs.Def.NetScope.{NetScopeModel, via_numbered}
 use Rattle.leg_grammar.specs.Def.Path.{across}
 use Rattle.leg_output.specs.Text.Wires.{lowest_layer}
 
@@ -178,11 +178,11 @@ lowest_is low (shape ∷ shapes) some each = omega (arith, up, down) where
     by false is = reaches low shape.layer shapes (rw is at some)
 
 -- A good via leads from its lower routing layer to the other.
-pub across_good : (known : KnownModel) (number : ℕ) (via : ViaModel) (low high : ℕ) → via_numbered known number ≡ Some via → via.good ≡ true
-    → JoinsTwo known.library via.shapes low high → (other : ℕ) × (across known number low ≡ Some other)
+pub across_good : (scope : NetScopeModel) (number : ℕ) (via : ViaModel) (low high : ℕ) → via_numbered scope number ≡ Some via → via.good ≡ true
+    → JoinsTwo scope.library via.shapes low high → (other : ℕ) × (across scope number low ≡ Some other)
 unfolding across
-across_good known number via low high is good joined =
-    let other = found_first (λ shape. is_routing known.library shape.layer && not (shape.layer == low)) via.shapes some in
+across_good scope number via low high is good joined =
+    let other = found_first (λ shape. is_routing scope.library shape.layer && not (shape.layer == low)) via.shapes some in
     (other.0.layer, rw (is, good, joined.on_low, other.1) refl) where
       high_one : Passes (λ shape. shape.layer == high) via.shapes
       high_one = passes_from (λ shape. shape.layer == high) via.shapes joined.on_high
@@ -193,6 +193,6 @@ across_good known number via low high is good joined =
       apart : (a : ℕ) → a ≡ high → (a == low) ≡ false
       apart a same = let below = joined.below in let above = joined.above in grind (arith, nat_tests)
 
-      some : list_any (λ shape. is_routing known.library shape.layer && not (shape.layer == low)) via.shapes ≡ true
-      some = some_passes (λ shape. is_routing known.library shape.layer && not (shape.layer == low)) via.shapes high_one.it high_one.in_list
+      some : list_any (λ shape. is_routing scope.library shape.layer && not (shape.layer == low)) via.shapes ≡ true
+      some = some_passes (λ shape. is_routing scope.library shape.layer && not (shape.layer == low)) via.shapes high_one.it high_one.in_list
           (let same = equal high_one.it.layer high high_one.passes in rw (apart high_one.it.layer same, same, joined.high_routes) refl)

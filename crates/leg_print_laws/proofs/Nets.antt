@@ -22,6 +22,7 @@ use Rattle.leg_design_records.specs.WellFormedNets.{IsWire, IsNet, AreNets, AreI
 use Rattle.leg_grammar.specs.Def.Guard.{is_over}
 use Rattle.leg_grammar.specs.Def.Terminal.{at_no_terminal}
 use Rattle.leg_grammar.specs.Def.Net.{NetParts, no_net_parts, use_clause, wiring_clause, clause_at, net_clause, net_name_at, net_in, are_too_many, net_entry, nets_at}
+use Rattle.leg_grammar.specs.Def.Parts.{net_scope}
 use Rattle.leg_design_nets.proofs.NetEntries.{net_entry_shortens}
 use Rattle.leg_output.specs.Text.Clauses.{clause_words, kept_clause}
 use Rattle.leg_output.specs.Text.Nets.{terminal_words, net_head, wiring_lines, net_said, net_words, net_text, wire_line}
@@ -32,7 +33,6 @@ use Rattle.leg_print_laws.specs.Forms.{DenotesForm}
 use Rattle.leg_print_laws.proofs.FreeWords.{AreInside, IsFree, free_literal, free_name, free_word, inside_nil, inside_cons, inside_append, inside_each}
 use Rattle.leg_print_laws.proofs.Again.{said_again}
 use Rattle.leg_print_laws.proofs.NumberedNames.{not_before, middle, fewer_before, within, each_passes, first_run_passes, next_run_passes}
-use Rattle.leg_print_laws.specs.NetScope.{known_of}
 use Rattle.leg_print_laws.proofs.WireWords.{wiring_again, wires_inside}
 use Rattle.leg_print_laws.proofs.Terminals.{terminals_again, terminal_free}
 use Rattle.leg_print_laws.proofs.Sections.{section_words, section_again, section_lines}
@@ -59,7 +59,7 @@ module _ (design : DesignModel) (has : HasParts design) (special : Bool) where
   no_more_terminals (Some word) wires = refl
 
   clauses_again : (usage : Option (List ℕ)) (wires : List Wire) → IsKept usage → All (IsWire design.library design.vias special) wires
-      → until is_over (net_clause (known_of design) special) no_net_parts (clauses usage wires) ≡ Some (parts_of usage wires, [])
+      → until is_over (net_clause (net_scope design) special) no_net_parts (clauses usage wires) ≡ Some (parts_of usage wires, [])
   unfolding steps net_clause clause_at use_clause wiring_clause keyword_at mark_at word_at next_at
   clauses_again None [] kept each = refl
   clauses_again None (wire ∷ wires) kept each = rw (wiring_again design has.sound has.vias special wire wires each) refl
@@ -69,7 +69,7 @@ module _ (design : DesignModel) (has : HasParts design) (special : Bool) where
   module _ (net : NetModel) (is : IsNet design special net) where
     net_in_again : (nets others : List NetModel) → place_of net.name (net_names nets) ≡ None
         → ((other : NetModel) (t : Terminal) → Contains (nets ++ others) other → Contains other.terminals t → Contains net.terminals t → other.name ≡ net.name)
-        → net_in (known_of design) special others nets (net_said design special net) ≡ Some net
+        → net_in (net_scope design) special others nets (net_said design special net) ≡ Some net
     unfolding net_in net_name_at mark_at name_at next_at
     net_in_again nets others new own =
         let terminals = flat_map (terminal_words design) net.terminals in
@@ -127,7 +127,7 @@ module _ (design : DesignModel) (has : HasParts design) (special : Bool) where
           → ((other : NetModel) (t : Terminal) → Contains (nets ++ others) other → Contains other.terminals t → Contains net.terminals t
           → other.name ≡ net.name)
           → are_too_many others (nets ++ net ∷ []) ≡ false
-          → (rest : Words) → net_entry (known_of design) special others nets (net_words design special net ++ rest) ≡ Some (nets ++ net ∷ [], rest)
+          → (rest : Words) → net_entry (net_scope design) special others nets (net_words design special net ++ rest) ≡ Some (nets ++ net ∷ [], rest)
       unfolding net_entry
       net_again nets others few new own fits rest =
           rw (
@@ -197,9 +197,9 @@ module _ (design : DesignModel) (has : HasParts design) (special : Bool) (nets o
 
   -- an entry among the others
   pub one_net_line : (before : List NetModel) (net : NetModel) (after : List NetModel) → nets ≡ before ++ (net ∷ after) → StayOne (net_entry_names design net)
-      → DenotesForm (net_entry (known_of design) special others before) (net_text design special net) (before ++ net ∷ [])
+      → DenotesForm (net_entry (net_scope design) special others before) (net_text design special net) (before ++ net ∷ [])
   one_net_line before net after is stays =
-      lines_say (net_entry (known_of design) special others before) (net_text design special net) (net_words design special net) (before ++ net ∷ [])
+      lines_say (net_entry (net_scope design) special others before) (net_text design special net) (net_words design special net) (before ++ net ∷ [])
       (net_lines design has special net (middle (IsNet design special) nets before net after is entries.are.each) stays)
       (net_again design has special net (middle (IsNet design special) nets before net after is entries.are.each) stays before others
       (omega (arith, fewer_before nets before net after is, entries.few))
@@ -208,7 +208,7 @@ module _ (design : DesignModel) (has : HasParts design) (special : Bool) (nets o
 
   module _ (one : StayOne (flat_map (net_entry_names design) nets)) where
     entry_again : (before : List NetModel) (net : NetModel) (after : List NetModel) → nets ≡ before ++ (net ∷ after) → (rest : Words)
-        → net_entry (known_of design) special others before (net_words design special net ++ rest) ≡ Some (before ++ net ∷ [], rest)
+        → net_entry (net_scope design) special others before (net_words design special net ++ rest) ≡ Some (before ++ net ∷ [], rest)
     entry_again before net after is =
         net_again design has special net (middle (IsNet design special) nets before net after is entries.are.each)
         (middle (λ n. StayOne (net_entry_names design n)) nets before net after is (each_passes stays_one (net_entry_names design) nets one)) before others
@@ -232,15 +232,15 @@ net_goes design special net rest = refl
 pub nets_again : (design : DesignModel) → HasParts design → (special : Bool) (net : NetModel) (nets others : List NetModel)
     → AreEntries design special (net ∷ nets) others
     → StayOne (flat_map (net_entry_names design) (net ∷ nets)) → (rest : Words)
-    → nets_at (known_of design) special others (section_words (net_section special) (net_words design special) (net ∷ nets) ++ rest) ≡ Some (net ∷ nets, rest)
+    → nets_at (net_scope design) special others (section_words (net_section special) (net_words design special) (net ∷ nets) ++ rest) ≡ Some (net ∷ nets, rest)
 unfolding nets_at
 nets_again design has false net nets others entries one rest =
-    section_again (codes "NETS") (net_entry (known_of design) false others) (net_words design false) (λ entries. entries) refl
-    (net_entry_shortens (known_of design) false others) net nets
+    section_again (codes "NETS") (net_entry (net_scope design) false others) (net_words design false) (λ entries. entries) refl
+    (net_entry_shortens (net_scope design) false others) net nets
     (few_nets design has false (net ∷ nets) others entries)
     (record { goes = net_goes design false; read = entry_again design has false (net ∷ nets) others entries one }) rest
 nets_again design has true net nets others entries one rest =
-    section_again (codes "SPECIALNETS") (net_entry (known_of design) true others) (net_words design true) (λ entries. entries) refl
-    (net_entry_shortens (known_of design) true others) net nets
+    section_again (codes "SPECIALNETS") (net_entry (net_scope design) true others) (net_words design true) (λ entries. entries) refl
+    (net_entry_shortens (net_scope design) true others) net nets
     (few_nets design has true (net ∷ nets) others entries)
     (record { goes = net_goes design true; read = entry_again design has true (net ∷ nets) others entries one }) rest

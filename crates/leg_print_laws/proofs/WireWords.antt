@@ -15,15 +15,15 @@ use Rattle.leg_design_records.specs.declared.records.Wire.{Wire}
 use Rattle.leg_design_records.specs.declared.records.Wire.TheVariants.{Segment, ViaAt, Patch}
 use Rattle.leg_design_records.specs.Records.{DesignModel}
 use Rattle.leg_design_records.specs.WellFormedParts.{IsPosition, AreVias}
-use Rattle.leg_design_records.specs.WellFormedNets.{IsWidth, IsWire}
+use Rattle.leg_design_records.specs.WellFormedNets.{IsWireWidth, IsWire}
 use Rattle.leg_grammar.specs.Def.PathItem.{at_path_end}
 use Rattle.leg_grammar.specs.Def.Wiring.{at_no_new, new_path, paths_at, wiring_start, wiring_at}
+use Rattle.leg_grammar.specs.Def.Parts.{net_scope}
 use Rattle.leg_output.specs.Names.{layer_name}
 use Rattle.leg_rules.specs.Names.{via_name}
 use Rattle.leg_output.specs.Text.Wires.{number_words, width_words, point_words, given_extension, wire_words, lower_layer_of_via}
 use Rattle.leg_output.specs.Text.Nets.{wiring_lines}
 use Rattle.leg_print_laws.specs.PrintedNames.{StayOne, wire_names}
-use Rattle.leg_print_laws.specs.NetScope.{known_of}
 use Rattle.leg_print_laws.proofs.FreeWords.{AreInside, AreFree, free_literal, free_name, free_number, free_nil, free_cons, free_append, inside_nil, inside_cons, inside_each}
 use Rattle.leg_print_laws.proofs.Again.{some_again}
 use Rattle.leg_print_laws.proofs.NumberedNames.{middle, first_run_passes, next_run_passes}
@@ -50,7 +50,7 @@ width_free false width is = free_nil
 width_free true width is = free_cons (free_number width is) free_nil
 
 module _ (design : DesignModel) (sound : IsSound design.library) (vias : AreVias design.library design.vias) where
-  width_number : (special : Bool) (layer : ℕ) (width : ℤ) → IsWidth design.library special layer width → IsNumberIf special width
+  width_number : (special : Bool) (layer : ℕ) (width : ℤ) → IsWireWidth design.library special layer width → IsNumberIf special width
   width_number false layer width is = tt
   width_number true layer width is = is.0
 
@@ -99,7 +99,7 @@ module _ (design : DesignModel) (sound : IsSound design.library) (vias : AreVias
     no_north (wire ∷ wires) = refl
 
     more_again : (front : List Wire) (wire : Wire) (back : List Wire) → IsWire design.library design.vias special wire
-        → new_path (known_of design) special front (more_words wire ++ (flat_map more_words back ++ [])) ≡ Some
+        → new_path (net_scope design) special front (more_words wire ++ (flat_map more_words back ++ [])) ≡ Some
         (front ++ wire ∷ [], flat_map more_words back ++ [])
     unfolding new_path keyword_at next_at
     more_again front wire back is = rw (wire_again design sound vias special wire is (flat_map more_words back ++ []) (ends_path back) (no_north back)) refl
@@ -108,15 +108,15 @@ module _ (design : DesignModel) (sound : IsSound design.library) (vias : AreVias
     some_word wire = omega arith
 
     more_wires : (wire : Wire) (wires : List Wire) → All (IsWire design.library design.vias special) wires
-        → until at_no_new (new_path (known_of design) special) (wire ∷ []) (flat_map more_words wires ++ []) ≡ Some (wire ∷ wires, [])
+        → until at_no_new (new_path (net_scope design) special) (wire ∷ []) (flat_map more_words wires ++ []) ≡ Some (wire ∷ wires, [])
     more_wires wire wires each =
-        some_again at_no_new (new_path (known_of design) special) more_words (λ ws. wire ∷ ws) [] some_word refl wires (λ before w after is. record {
+        some_again at_no_new (new_path (net_scope design) special) more_words (λ ws. wire ∷ ws) [] some_word refl wires (λ before w after is. record {
           goes = refl;
           read = more_again (wire ∷ before) w after (middle (IsWire design.library design.vias special) wires before w after is each);
         })
 
     pub wiring_again : (wire : Wire) (wires : List Wire) → All (IsWire design.library design.vias special) (wire ∷ wires)
-        → wiring_at (known_of design) special (codes "ROUTED" ∷ (wire_words design special wire ++ words_in_lines (map more_words wires))) ≡ Some
+        → wiring_at (net_scope design) special (codes "ROUTED" ∷ (wire_words design special wire ++ words_in_lines (map more_words wires))) ≡ Some
         (wire ∷ wires, [])
     unfolding wiring_at wiring_start paths_at next_at
     wiring_again wire wires each =

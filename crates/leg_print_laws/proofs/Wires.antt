@@ -20,8 +20,8 @@ use Rattle.leg_design_records.specs.declared.records.Wire.TheVariants.{Segment, 
 use Rattle.leg_design_records.specs.Layers.{is_routing}
 use Rattle.leg_design_records.specs.Wires.{is_straight, default_extension, is_even}
 use Rattle.leg_design_records.specs.WellFormedParts.{IsPosition, IsArea}
-use Rattle.leg_design_records.specs.WellFormedNets.{IsWidth, written, IsExtension}
-use Rattle.leg_grammar.specs.Def.Namespace.{KnownModel, via_named}
+use Rattle.leg_design_records.specs.WellFormedNets.{IsWireWidth, written, IsExtension}
+use Rattle.leg_grammar.specs.Def.NetScope.{NetScopeModel, via_named}
 use Rattle.leg_grammar.specs.Def.Path.{is_same_spot, extension_at, segment_width, segment_to, across, wires_from}
 use Rattle.leg_grammar.specs.Def.PathItem.{count_at, coordinate_at, extension_in_point, point_item, first_point_at, rect_item, past_north, via_item, item_at, one_item, at_path_end}
 use Rattle.leg_grammar.specs.Def.Wiring.{routing_at, past_taper, written_width_at, written_at, path_at}
@@ -101,7 +101,7 @@ other_spot p q apart = by (int_eq p.x q.x) (int_eq p.y q.y) refl refl where
   by true true at of = absurd (apart (same_point p q (eq_from_test p.x q.x at) (eq_from_test p.y q.y of)))
 
 -- the width of a segment, and the extension that holds where none is given
-width_again : (library : LibraryModel) (special : Bool) (layer : ℕ) (width : ℤ) → IsWidth library special layer width
+width_again : (library : LibraryModel) (special : Bool) (layer : ℕ) (width : ℤ) → IsWireWidth library special layer width
     → segment_width library (written_as special width) layer ≡ Some width
 unfolding segment_width
 width_again library false layer width is = is
@@ -115,7 +115,7 @@ unfolding default_extension
 same_default library false layer width = refl
 same_default library true layer width = refl
 
-width_written : (library : LibraryModel) (special : Bool) (layer : ℕ) (width : ℤ) → IsWidth library special layer width → IsWritten special width
+width_written : (library : LibraryModel) (special : Bool) (layer : ℕ) (width : ℤ) → IsWireWidth library special layer width → IsWritten special width
 width_written library false layer width is = tt
 width_written library true layer width is = (is.0, at_least width is.1, is.2) where
   at_least : (w : ℤ) → pos 0 <ℤ w → pos 0 ≤ℤ w
@@ -126,25 +126,32 @@ pub record IsPathLayer (library : LibraryModel) (layer : ℕ) (name : List ℕ) 
   pub named : IsLayerName library layer name
   pub routes : is_routing library layer ≡ true
 
-module _ (known : KnownModel) (special : Bool) (layer : ℕ) (name : List ℕ) (is_layer : IsPathLayer known.library layer name) where
-  layer_again : (rest : Words) → routing_at known.library (name ∷ rest) ≡ Some (layer, rest)
+-- the name of a via that leads from the layer to another one, a name that begins no other item of a path
+pub record IsViaName (scope : NetScopeModel) (layer : ℕ) (via : List ℕ) (number other : ℕ) : Type 0 where
+  pub named : is_name via ≡ true
+  pub free : is_wiring_word via ≡ false
+  pub there : via_named scope via ≡ Some number
+  pub leads : across scope number layer ≡ Some other
+
+module _ (scope : NetScopeModel) (special : Bool) (layer : ℕ) (name : List ℕ) (is_layer : IsPathLayer scope.library layer name) where
+  layer_again : (rest : Words) → routing_at scope.library (name ∷ rest) ≡ Some (layer, rest)
   unfolding routing_at name_at next_at
   layer_again rest = rw (is_layer.named.is_one, is_layer.named.there, is_layer.routes) refl
 
   module _ (from to : PointModel) (width : ℤ) (is_from : IsPosition from) (is_to : IsPosition to) (straight : is_straight from to ≡ true) (long : from ≢ to)
-      (is_width : IsWidth known.library special layer width) where
+      (is_width : IsWireWidth scope.library special layer width) where
     pub segment_path : (first next : Option ℤ) (rest : Words) → IsGiven first → IsGiven next → at_path_end rest ≡ true
-        → path_at known special (name ∷ (width_words special width ++ (point_words from first ++ (point_words to next ++ rest))))
+        → path_at scope special (name ∷ (width_words special width ++ (point_words from first ++ (point_words to next ++ rest))))
         ≡ Some (
-          Segment layer from to width (unwrap_or first (default_extension known.library (written_as special width) layer))
-              (unwrap_or next (default_extension known.library (written_as special width) layer)) ∷ [],
+          Segment layer from to width (unwrap_or first (default_extension scope.library (written_as special width) layer))
+              (unwrap_or next (default_extension scope.library (written_as special width) layer)) ∷ [],
           rest,
         )
     unfolding path_at next_at steps one_item item_at point_item coordinate_at extension_in_point count_at mark_at wires_from extension_at segment_to
     segment_path first None rest is_first is_next ends =
         rw (
           layer_again _,
-          written_again special width _ (width_written known.library special layer width is_width),
+          written_again special width _ (width_written scope.library special layer width is_width),
           first_point_again from first _ is_from is_first,
           no_mark_number 42 refl (omega arith) to.x is_to.x,
           number_again to.x _ is_to.x,
@@ -153,12 +160,12 @@ module _ (known : KnownModel) (special : Bool) (layer : ℕ) (name : List ℕ) (
           ends,
           other_spot from to long,
           straight,
-          width_again known.library special layer width is_width,
+          width_again scope.library special layer width is_width,
         ) refl
     segment_path first (Some z) rest is_first is_next ends =
         rw (
           layer_again _,
-          written_again special width _ (width_written known.library special layer width is_width),
+          written_again special width _ (width_written scope.library special layer width is_width),
           first_point_again from first _ is_from is_first,
           no_mark_number 42 refl (omega arith) to.x is_to.x,
           number_again to.x _ is_to.x,
@@ -170,33 +177,32 @@ module _ (known : KnownModel) (special : Bool) (layer : ℕ) (name : List ℕ) (
           ends,
           other_spot from to long,
           straight,
-          width_again known.library special layer width is_width,
+          width_again scope.library special layer width is_width,
         ) refl
 
   -- a via, where its path begins on a layer from which it leads to another
-  pub via_path : (at : PointModel) (number other : ℕ) (via : List ℕ) (rest : Words) → IsPosition at → is_name via ≡ true → is_wiring_word via ≡ false
-      → via_named known via ≡ Some number → across known number layer ≡ Some other
+  pub via_path : (at : PointModel) (number other : ℕ) (via : List ℕ) (rest : Words) → IsPosition at → IsViaName scope layer via number other
       → at_path_end rest ≡ true → is_at (codes "N") rest ≡ false
-      → path_at known special (name ∷ (width_words special (pos 0) ++ (point_words at None ++ (via ∷ rest)))) ≡ Some (ViaAt number at ∷ [], rest)
+      → path_at scope special (name ∷ (width_words special (pos 0) ++ (point_words at None ++ (via ∷ rest)))) ≡ Some (ViaAt number at ∷ [], rest)
   unfolding path_at name_at next_at steps one_item item_at via_item past_north wires_from extension_at
-  via_path at number other via rest is named free there leads ends no_north =
-      let no_new : is_keyword (codes "NEW") via ≡ false = first_is_none (λ word. is_keyword word via) (codes "NEW") (drop 1 wiring_words) free in
-      let no_others = others_are_none (λ word. is_keyword word via) (codes "NEW") (drop 1 wiring_words) free in
+  via_path at number other via rest is names ends no_north =
+      let no_new : is_keyword (codes "NEW") via ≡ false = first_is_none (λ word. is_keyword word via) (codes "NEW") (drop 1 wiring_words) names.free in
+      let no_others = others_are_none (λ word. is_keyword word via) (codes "NEW") (drop 1 wiring_words) names.free in
       let no_rect : is_keyword (codes "RECT") via ≡ false = first_is_none (λ word. is_keyword word via) (codes "RECT") (drop 2 wiring_words) no_others in
       rw (
         layer_again _,
         written_again special (pos 0) _ zero_written,
         first_point_again at None _ is tt,
         no_new,
-        no_mark_byte 43 refl via (name_is_word via named),
-        no_mark 40 refl (omega arith) via named,
+        no_mark_byte 43 refl via (name_is_word via names.named),
+        no_mark 40 refl (omega arith) via names.named,
         no_rect,
-        named,
-        free,
-        there,
+        names.named,
+        names.free,
+        names.there,
         no_north,
         ends,
-        leads,
+        names.leads,
       ) refl where
         zero_written : IsWritten special (pos 0)
         zero_written = by special where
@@ -210,15 +216,15 @@ module _ (known : KnownModel) (special : Bool) (layer : ℕ) (name : List ℕ) (
             least = omega (arith, ints)
 
 -- a rectangle, in NETS
-pub patch_path : (known : KnownModel) (layer : ℕ) (name : List ℕ) (at : PointModel) (rect : RectModel) (rest : Words) → IsPathLayer known.library layer name
+pub patch_path : (scope : NetScopeModel) (layer : ℕ) (name : List ℕ) (at : PointModel) (rect : RectModel) (rest : Words) → IsPathLayer scope.library layer name
     → IsPosition at → IsArea rect → at_path_end rest ≡ true
-    → path_at known false (name ∷ (spot_words at ++
+    → path_at scope false (name ∷ (spot_words at ++
     (codes "RECT" ∷ codes "(" ∷ signed_decimal rect.x1 ∷ signed_decimal rect.y1 ∷ signed_decimal rect.x2 ∷ signed_decimal rect.y2 ∷ codes ")" ∷ rest)))
     ≡ Some (Patch layer at rect ∷ [], rest)
 unfolding path_at keyword_at next_at steps one_item item_at rect_item mark_at wires_from extension_at
-patch_path known layer name at rect rest is_layer is is_rect ends =
+patch_path scope layer name at rect rest is_layer is is_rect ends =
     rw (
-      layer_again known false layer name is_layer _,
+      layer_again scope false layer name is_layer _,
       written_again false (pos 0) _ tt,
       first_point_again at None _ is tt,
       number_again rect.x1 _ is_rect.x1,

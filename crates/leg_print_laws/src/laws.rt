@@ -27,7 +27,7 @@ ghost use Rattle.leg_grammar.specs.Def.Blockage.{blockage_entry};
 ghost use Rattle.leg_grammar.specs.Def.Net.{net_entry};
 ghost use Rattle.leg_grammar.specs.Def.Header.{word_after, design_name_at, units_at, units_in};
 ghost use Rattle.leg_grammar.specs.Def.Section.{section_start};
-ghost use Rattle.leg_grammar.specs.Def.Parts.{DesignParts};
+ghost use Rattle.leg_grammar.specs.Def.Parts.{DesignParts, net_scope};
 ghost use Rattle.leg_grammar.specs.Def.Form.{def_form_at, design_in};
 ghost use Rattle.leg_output.specs.Text.Header.{version_words, word_words, units_words, die_words};
 ghost use Rattle.leg_output.specs.Text.Rows.{row_words};
@@ -40,7 +40,6 @@ ghost use Rattle.leg_output.specs.Text.Nets.{net_text};
 ghost use Rattle.leg_output.specs.Text.Sections.{section_start_words, end_words};
 ghost use Rattle.leg_output.specs.Text.Whole.{design_text};
 ghost use Rattle.leg_print_laws.specs.Forms.{DenotesForm, WordsDenote};
-ghost use Rattle.leg_print_laws.specs.NetScope.{known_of};
 ghost use Rattle.leg_print_laws.specs.PrintedNames.{StayOne, row_names, track_names, via_entry_names, component_entry_names, pin_entry_names, blockage_entry_names, net_entry_names, printed_names};
 
 use leg_design_records::Design;
@@ -170,8 +169,8 @@ pub fn blockage_entry_is_read()
 pub fn net_entry_is_read()
     ensures special { (design : DesignModel) (before after : List NetModel) (net : NetModel) → IsSound design.library → IsWellFormed design
         → design.special ≡ before ++ (net ∷ after) → StayOne (net_entry_names design net)
-        → DenotesForm (net_entry (known_of design) true [] before) (net_text design true net) (before ++ net ∷ []) }
+        → DenotesForm (net_entry (net_scope design) true [] before) (net_text design true net) (before ++ net ∷ []) }
     ensures nets { (design : DesignModel) (before after : List NetModel) (net : NetModel) → IsSound design.library → IsWellFormed design
         → design.nets ≡ before ++ (net ∷ after) → StayOne (net_entry_names design net)
-        → DenotesForm (net_entry (known_of design) false design.special before) (net_text design false net) (before ++ net ∷ []) }
+        → DenotesForm (net_entry (net_scope design) false design.special before) (net_text design false net) (before ++ net ∷ []) }
 {}

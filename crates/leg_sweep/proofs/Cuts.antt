@@ -81,16 +81,24 @@ pub sides_are : (o : Option RectModel) (x1 y1 x2 y2 : ℤ) (v x : RectModel) →
     → SomeIff o (IsRect (sides x1 y1 x2 y2)) (sides x1 y1 x2 y2) → o ≡ Some x → x ≡ v
 sides_are o x1 y1 x2 y2 v x a b c d made is = value_there o (IsRect (sides x1 y1 x2 y2)) (sides x1 y1 x2 y2) x made is ∙ same_sides x1 y1 x2 y2 v a b c d
 
+-- the left edges of two rectangles, of which the second is no further left, and the gap between them
+pub record AreEdgesApart (left edge gap : ℤ) (rect other : RectModel) : Type 0 where
+  pub left_is : left ≡ rect.x1
+  pub edge_is : edge ≡ other.x1
+  pub gap_is : gap ≡ pos (x_gap rect other)
+  pub proper : IsRect rect
+  pub other_proper : IsRect other
+  pub order : rect.x1 ≤ℤ other.x1
+
 -- the right edge that a gap tells
-pub edge_told : (right left edge gap : ℤ) (rect other : RectModel) → left ≡ rect.x1 → edge ≡ other.x1 → gap ≡ pos (x_gap rect other) → IsRect rect
-    → IsRect other → rect.x1 ≤ℤ other.x1
+pub edge_told : (right left edge gap : ℤ) (rect other : RectModel) → AreEdgesApart left edge gap rect other
     → right ≡ int_max (to_z w64 (of_z w64 (to_z w64 (of_z w64 edge) -ℤ to_z w64 (of_z w64 gap)))) (to_z w64 (of_z w64 (to_z w64 (of_z w64 left) +ℤ pos 1)))
     → right ≡ (cut_at other.x1 rect).x2
-edge_told right left edge gap rect other left_is edge_is gap_is proper other_proper order is =
-    let x1 = proper.x1 in
-    let line = other_proper.x1 in
-    let small = gap_small rect.x1 rect.x2 other.x1 other.x2 proper.wide other_proper.wide order in
-    let told = rw (left_is, edge_is, gap_is) at is in
+edge_told right left edge gap rect other apart is =
+    let x1 = apart.proper.x1 in
+    let line = apart.other_proper.x1 in
+    let small = gap_small rect.x1 rect.x2 other.x1 other.x2 apart.proper.wide apart.other_proper.wide apart.order in
+    let told = rw (apart.left_is, apart.edge_is, apart.gap_is) at is in
     let left_fits : FitsSigned w64 rect.x1 = omega (arith, ints) in
     let edge_fits : FitsSigned w64 other.x1 = omega (arith, ints) in
     let gap_fits : FitsSigned w64 (pos (x_gap rect other)) = omega (arith, ints, small) in
@@ -103,4 +111,4 @@ edge_told right left edge gap rect other left_is edge_is gap_is proper other_pro
       to_z-of_z w64 (other.x1 -ℤ pos (x_gap rect other)) end_fits,
       to_z-of_z w64 (rect.x1 +ℤ pos 1) next_fits,
     ) at told)
-    ∙ cut_told other.x1 other.x2 rect.x1 rect.x2 proper.wide order other_proper.wide
+    ∙ cut_told other.x1 other.x2 rect.x1 rect.x2 apart.proper.wide apart.order apart.other_proper.wide

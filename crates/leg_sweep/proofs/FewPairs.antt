@@ -1,12 +1,12 @@
 -- The pairs of a few items, each two of them looked at.
-use Rattle.std.proofs.Common.{◌≡◌, ◌≢◌, ℕ, zero, suc, ◌+◌, ◌*◌, ◌<◌, ◌≤◌, Bool, true, false, ◌&&◌, cond, List, [], ◌∷◌, ◌++◌, length, get_or, take, count_by, All, AllPairs, Contains, inl, inr, refl, sym, ap, subst, ◌∙◌, arith}
+use Rattle.std.proofs.Common.{◌≡◌, ◌≢◌, ℕ, ◌+◌, ◌*◌, ◌<◌, ◌≤◌, Bool, true, false, ◌&&◌, cond, List, [], ◌∷◌, ◌++◌, length, get_or, take, count_by, All, AllPairs, Contains, inl, inr, sym, ap, subst, ◌∙◌, arith}
 use Rattle.std.specs.List.{range_with_len}
 use Rattle.std.proofs.lemmas.Bool.{cases_lt}
 use Rattle.std.proofs.lemmas.List.{length-append, take_more}
 use Rattle.std.proofs.lemmas.List.Elements.{All-nil, All-append, All-weaker, Contains-append_left, Contains-append_right}
-use Rattle.std.proofs.lemmas.List.FromFn.{length-range_with_len, get_or-range_with_len}
 use Rattle.std.proofs.lemmas.Option.{slice_get_cases, slice_get_within}
 use Rattle.leg_lemmas.proofs.Rising.{AllPairs-nil, AllPairs-append_by}
+use Rattle.leg_lemmas.proofs.Ranges.{in_range, range_within}
 use Rattle.leg_sweep.specs.Pairs.{TakesAll, TookPairs}
 use Rattle.leg_geom.specs.Pairs.{IsPair}
 use Rattle.leg_sweep.specs.Pairs.TakesAll.{none}
@@ -26,28 +26,12 @@ pub record FoundBelow {Sink : Type 0} (Takes : Sink → ℕ × ℕ → Sink → 
   pub all : (p : ℕ × ℕ) → IsOne p → p.1 < n → Contains found p
   pub enough : length found ≤ tests
 
--- one more number
-numbers_from_more : (a n : ℕ) → range_with_len a (suc n) ≡ range_with_len a n ++ (a + n) ∷ []
-numbers_from_more a zero = let none : a + 0 ≡ a = omega arith in rw none refl
-numbers_from_more a (suc n) =
-    let number : (a + 1) + n ≡ a + suc n = omega arith in
-    let rest : range_with_len (a + 1) (suc n) ≡ range_with_len (a + 1) n ++ (a + suc n) ∷ [] = rw number at (numbers_from_more (a + 1) n) in
-    ap (λ (xs : List ℕ). a ∷ xs) rest
-
-pub numbers_more : (n : ℕ) → range_with_len 0 (n + 1) ≡ range_with_len 0 n ++ n ∷ []
-numbers_more n =
-    let next : n + 1 ≡ suc n = omega arith in
-    let number : 0 + n ≡ n = omega arith in
-    rw next (rw number at (numbers_from_more 0 n))
-
 -- the first n numbers are those below n
 pub number_below : (n x : ℕ) → Contains (range_with_len 0 n) x → x < n
-number_below n x (k, within, is) =
-    let short : k < n = omega (arith, length-range_with_len 0 n, within) in
-    omega (arith, short, is, get_or-range_with_len 0 n k x short)
+number_below n x has = omega (arith, (range_within 0 n x has).1)
 
 pub below_number : (n x : ℕ) → x < n → Contains (range_with_len 0 n) x
-below_number n x below = (x, omega (arith, length-range_with_len 0 n, below), get_or-range_with_len 0 n x x below ∙ omega arith)
+below_number n x below = in_range 0 n x (omega arith) (omega (arith, below))
 
 module _ {X : Type 0} (test : X → X → Bool) (xs : List X) (i : ℕ) (x : X) (within : i < length xs) (is : x ≡ get_or xs i x) where
   -- the pairs that one more element makes with those before it

@@ -10,36 +10,36 @@ use Rattle.std.proofs.lemmas.Option.{slice_get-map, slice_get_cases, get_or_from
 use Rattle.leg_lemmas.proofs.Places.{contains_at}
 use Rattle.leg_lemmas.proofs.Contained.{All-from_contains}
 use Rattle.leg_geom.specs.Plane.{RectModel, IsRect}
-use Rattle.leg_sweep.specs.declared.band.Stretch.{Stretch}
+use Rattle.leg_sweep.specs.declared.band.BandRange.{BandRange}
 use Rattle.leg_sweep.specs.declared.grid.LayerSpan.{LayerSpan}
 use Rattle.leg_sweep.specs.declared.grid.LayerBands.{LayerBands}
-use Rattle.leg_sweep.specs.Steps.Bands.{stretch_at, entries_at}
-use Rattle.leg_sweep.specs.Steps.Grid.{height_of, rect_height, span_at, bands_at, AreSpans, IsGrid, BeginsIn, stretch_in}
+use Rattle.leg_sweep.specs.Steps.Bands.{range_at, entries_at}
+use Rattle.leg_sweep.specs.Steps.Grid.{height_of, rect_height, span_at, bands_at, AreSpans, IsGrid, BeginsIn, range_in}
 use Rattle.leg_sweep.proofs.GridHeights.{quotient_rises, height_rises, bands_taken}
 use Rattle.leg_sweep.proofs.GridSums.{on_layer, sum_by-map, sum_by_places, sum_thrice, layer_thrice}
 use Rattle.leg_sweep.proofs.GridBands.{bands_within}
 
--- a stretch is among the bands
-pub record IsAmong (bands : LayerBands) (stretch : Stretch) : Type 0 where
-  pub low : bands.first ≤ stretch.first
-  pub up : stretch.first ≤ stretch.last
-  pub high : stretch.last < bands.first + bands.count
+-- a range is among the bands
+pub record IsAmong (bands : LayerBands) (range : BandRange) : Type 0 where
+  pub low : bands.first ≤ range.first
+  pub up : range.first ≤ range.last
+  pub high : range.last < bands.first + bands.count
 
-stretch_among : (bands : LayerBands) (rect : RectModel) → IsRect rect → BeginsIn bands rect → IsAmong bands (stretch_in bands rect)
-stretch_among bands rect is begins =
+range_among : (bands : LayerBands) (rect : RectModel) → IsRect rect → BeginsIn bands rect → IsAmong bands (range_in bands rect)
+range_among bands rect is begins =
     let rise = height_rises rect.y1 rect.y2 is.y1 is.y2 is.high in
     let below = begins.below in
     let up = quotient_rises bands.height (height_of rect.y1 - bands.low) (height_of rect.y2 + bands.reach - bands.low) begins.tall (omega (arith, rise)) in
     record { low = omega arith; up = omega (arith, up, below); high = omega (arith, below) }
 
 -- in how many bands it stands
-abbrev entries_of : Stretch → ℕ
-entries_of stretch = stretch.last + 1 - stretch.first
+abbrev entries_of : BandRange → ℕ
+entries_of range = range.last + 1 - range.first
 
 -- what it takes of the bands' height
-stretch_taken : (bands : LayerBands) (rect : RectModel) → IsRect rect → BeginsIn bands rect
-    → bands.height * entries_of (stretch_in bands rect) ≤ 2 * bands.height + (rect_height rect + bands.reach)
-stretch_taken bands rect is begins =
+range_taken : (bands : LayerBands) (rect : RectModel) → IsRect rect → BeginsIn bands rect
+    → bands.height * entries_of (range_in bands rect) ≤ 2 * bands.height + (rect_height rect + bands.reach)
+range_taken bands rect is begins =
     let bottom : ℕ = height_of rect.y1 in
     let top : ℕ = height_of rect.y2 in
     let rise = height_rises rect.y1 rect.y2 is.y1 is.y2 is.high in
@@ -52,11 +52,11 @@ stretch_taken bands rect is begins =
     (omega (arith, up, below)))
 
 -- the item with a number, in the bands of its layer
-pub record IsPlaced {Item : Type 0} (layer_of : Item → ℕ) (items : List Item) (grid : List LayerBands) (x : ℕ) (stretch : Stretch) : Type 0 where
+pub record IsPlaced {Item : Type 0} (layer_of : Item → ℕ) (items : List Item) (grid : List LayerBands) (x : ℕ) (range : BandRange) : Type 0 where
   pub item : Item
   pub got : slice_get items x ≡ Some item
   pub within : layer_of item < length grid
-  pub among : IsAmong (bands_at grid (layer_of item)) stretch
+  pub among : IsAmong (bands_at grid (layer_of item)) range
 
 module _ {Item : Type 0} (rect_of : Item → RectModel) (layer_of : Item → ℕ) (reach_of : ℕ → ℕ) (layers : ℕ) (items : List Item) (spans : List LayerSpan)
     (grid : List LayerBands)
@@ -102,30 +102,30 @@ module _ {Item : Type 0} (rect_of : Item → RectModel) (layer_of : Item → ℕ
 
   -- the items of a layer stand in three bands at most, on average
   entries_on_layer : (layer : ℕ) → layer < layers
-      → sum_by (on_layer layer_of (λ a. entries_of (stretch_in (bands_at grid (layer_of a)) (rect_of a))) layer) items ≤ 3 * count_by
+      → sum_by (on_layer layer_of (λ a. entries_of (range_in (bands_at grid (layer_of a)) (rect_of a))) layer) items ≤ 3 * count_by
       (λ a. eqb (layer_of a) layer) items
   entries_on_layer layer within =
       let own : LayerBands = bands_at grid layer in
-      let entries : Item → ℕ = λ (a : Item). entries_of (stretch_in (bands_at grid (layer_of a)) (rect_of a)) in
+      let entries : Item → ℕ = λ (a : Item). entries_of (range_in (bands_at grid (layer_of a)) (rect_of a)) in
       let tall : Item → ℕ = λ (a : Item). rect_height (rect_of a) in
       let is_span = are_spans.each layer within in
       let are = is_grid.each layer within in
       layer_thrice layer_of layer own.height own.reach entries tall items (span_at spans layer).count (span_at spans layer).total
       (All-from_contains (λ a. layer_of a ≡ layer → own.height * entries a ≤ 2 * own.height + (tall a + own.reach)) items
-      (λ a has here. rw (← here) (stretch_taken (bands_at grid (layer_of a)) (rect_of a) (proper_of a has) (begins_at a has))))
+      (λ a has here. rw (← here) (range_taken (bands_at grid (layer_of a)) (rect_of a) (proper_of a has) (begins_at a has))))
       are.tall is_span.count is_span.total are.even
 
-  module _ (stretches : List Stretch) (are_stretches : stretches ≡ map (λ a. stretch_in (bands_at grid (layer_of a)) (rect_of a)) items) where
-    pub stretch_is : (x : ℕ) (a : Item) → slice_get items x ≡ Some a → stretch_at stretches x ≡ stretch_in (bands_at grid (layer_of a)) (rect_of a)
-    stretch_is x a got =
-        let stretch_of : Item → Stretch = λ (b : Item). stretch_in (bands_at grid (layer_of b)) (rect_of b) in
-        rw are_stretches (get_or_from_slice_get (map stretch_of items) x (stretch_of a) (record { first = 0; last = 0 })
-        (slice_get-map stretch_of items x ∙ ap (λ o. option_map stretch_of o) got))
+  module _ (ranges : List BandRange) (are_ranges : ranges ≡ map (λ a. range_in (bands_at grid (layer_of a)) (rect_of a)) items) where
+    pub range_is : (x : ℕ) (a : Item) → slice_get items x ≡ Some a → range_at ranges x ≡ range_in (bands_at grid (layer_of a)) (rect_of a)
+    range_is x a got =
+        let range_of : Item → BandRange = λ (b : Item). range_in (bands_at grid (layer_of b)) (rect_of b) in
+        rw are_ranges (get_or_from_slice_get (map range_of items) x (range_of a) (record { first = 0; last = 0 })
+        (slice_get-map range_of items x ∙ ap (λ o. option_map range_of o) got))
 
-    pub many_stretches : length stretches ≡ length items
-    many_stretches = rw are_stretches (length-map items (λ (a : Item). stretch_in (bands_at grid (layer_of a)) (rect_of a)))
+    pub many_ranges : length ranges ≡ length items
+    many_ranges = rw are_ranges (length-map items (λ (a : Item). range_in (bands_at grid (layer_of a)) (rect_of a)))
 
-    pub placed : (x : ℕ) → x < length items → IsPlaced layer_of items grid x (stretch_at stretches x)
+    pub placed : (x : ℕ) → x < length items → IsPlaced layer_of items grid x (range_at ranges x)
     placed x within =
         elim (slice_get_cases items x).1 [
           | inl there ↦
@@ -136,17 +136,17 @@ module _ {Item : Type 0} (rect_of : Item → RectModel) (layer_of : Item → ℕ
                 item = a;
                 got = got;
                 within = omega (arith, is_grid.many, layer_within a has);
-                among = rw (stretch_is x a got) (stretch_among (bands_at grid (layer_of a)) (rect_of a) (proper_of a has) (begins_at a has));
+                among = rw (range_is x a got) (range_among (bands_at grid (layer_of a)) (rect_of a) (proper_of a has) (begins_at a has));
               }
           | inr past ↦ absurd (omega (arith, past.0))
         ]
 
     -- an item stands in three bands at most, on average
-    pub few_entries : sum_by (entries_at stretches) (range_with_len 0 (length items)) ≤ 3 * length items
+    pub few_entries : sum_by (entries_at ranges) (range_with_len 0 (length items)) ≤ 3 * length items
     few_entries =
-        let stretch_of : Item → Stretch = λ (a : Item). stretch_in (bands_at grid (layer_of a)) (rect_of a) in
-        let places = rw many_stretches at (sum_by_places entries_of stretches (record { first = 0; last = 0 })) in
-        let by_items : sum_by entries_of stretches ≡ sum_by (λ a. entries_of (stretch_of a)) items =
-        rw are_stretches (sum_by-map entries_of stretch_of items) in
-        let thrice = sum_thrice layer_of (λ a. entries_of (stretch_of a)) items layers are_spans.layered entries_on_layer in
+        let range_of : Item → BandRange = λ (a : Item). range_in (bands_at grid (layer_of a)) (rect_of a) in
+        let places = rw many_ranges at (sum_by_places entries_of ranges (record { first = 0; last = 0 })) in
+        let by_items : sum_by entries_of ranges ≡ sum_by (λ a. entries_of (range_of a)) items =
+        rw are_ranges (sum_by-map entries_of range_of items) in
+        let thrice = sum_thrice layer_of (λ a. entries_of (range_of a)) items layers are_spans.layered entries_on_layer in
         omega (arith, places, by_items, thrice)

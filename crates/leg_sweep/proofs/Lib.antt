@@ -26,7 +26,7 @@ mod GridSums
 mod GridSpans
 mod GridBands
 mod GridPlaces
-mod GridStretches
+mod GridRanges
 -- The left edges in buckets
 mod Buckets
 -- The index of rectangles

@@ -10,10 +10,9 @@ use Rattle.std.proofs.lemmas.List.Kept.{AllPairs-filter}
 use Rattle.std.proofs.lemmas.List.Sums.{length-filter, sum_by-cons, sum_by-set, sum_by-append}
 use Rattle.std.proofs.lemmas.Map.Keys.{IsDistinct-from_apart}
 use Rattle.std.proofs.lemmas.Map.Made.{is_member-Decides, length-le_from_is_member}
-use Rattle.leg_lemmas.proofs.Contained.{All-from_contains}
+use Rattle.leg_lemmas.proofs.Contained.{All-from_contains, Contains-filter, Contains-from_filter}
 use Rattle.leg_lemmas.proofs.Rising.{AllPairs-append_by}
 use Rattle.leg_sweep.specs.Steps.Bands.{Waiting, empty_band, waiting_at, after_begin, after_pass, met, waiting_count, AreEmpty, AreVisited}
-use Rattle.leg_sweep.proofs.Progress.{Contains-filter, Contains-from_filter}
 use Rattle.leg_sweep.proofs.SweepSoFar.{VisitedBy, AreMet}
 
 -- the bands' lists as functions of their numbers
@@ -143,7 +142,7 @@ count_by-le_within p q xs ys apart inside =
     (λ x member.
     let c = Contains-from_filter p xs x ((is_member-Decides Decides-eqb kept x).0 member) in
     let there = inside x c.0 c.1 in
-    (is_member-Decides Decides-eqb (filter q ys) x).1 (Contains-filter q ys x there.0 there.1)) in
+    (is_member-Decides Decides-eqb (filter q ys) x).1 (Contains-filter q x ys there.1 there.0)) in
     omega (arith, few, length-filter p xs, length-filter q ys)
 
 -- one band of a list is another one

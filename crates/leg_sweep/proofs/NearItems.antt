@@ -8,13 +8,13 @@ use Rattle.std.proofs.lemmas.Cmp.{nat_eq_equiv}
 use Rattle.std.proofs.lemmas.List.{get_or-map, get_or_read, length-map}
 use Rattle.std.proofs.lemmas.List.Elements.{All-contains, All-weaker}
 use Rattle.std.proofs.lemmas.List.Kept.{AllPairs-filter}
-use Rattle.std.proofs.lemmas.List.FromFn.{length-range_with_len, get_or-range_with_len}
 use Rattle.std.proofs.lemmas.List.Sorted.{Contains-permutation, IsPermutation-sym}
 use Rattle.std.proofs.lemmas.List.Sums.{sum_by_more, sum_by_push}
 use Rattle.std.proofs.lemmas.Map.Keys.{IsDistinct-from_apart, apart_from_distinct, IsDistinct-IsPermutation}
 use Rattle.std.proofs.lemmas.Option.{slice_get-map, slice_get_cases, slice_get_within, get_or_from_slice_get, same_Some}
 use Rattle.leg_lemmas.proofs.Places.{contains_at, get_or_mapped}
-use Rattle.leg_lemmas.proofs.Contained.{All-from_contains}
+use Rattle.leg_lemmas.proofs.Contained.{All-from_contains, Contains-filter, Contains-from_filter}
+use Rattle.leg_lemmas.proofs.Ranges.{range_more, range_rises}
 use Rattle.leg_geom.specs.Plane.{RectModel, IsRect}
 use Rattle.leg_geom.specs.Gap.{x_gap, y_gap}
 use Rattle.leg_sweep.specs.declared.node.Node.{Node}
@@ -28,12 +28,11 @@ use Rattle.leg_sweep.specs.Steps.Nodes.{AreNodesOf}
 use Rattle.leg_sweep.specs.Steps.Sweep.{unit_square, rect_numbered, ordered, AreInReach, CanMeet, IsLeftToRight, AreNewPairs}
 use Rattle.leg_sweep.proofs.Counts.{count_pairs-le, length_of_all}
 use Rattle.leg_sweep.proofs.Cuts.{x_gap_kept}
-use Rattle.leg_sweep.proofs.FewPairs.{numbers_more, number_below, below_number}
+use Rattle.leg_sweep.proofs.FewPairs.{number_below, below_number}
 use Rattle.leg_sweep.proofs.MetItems.{count_by-le_within}
 use Rattle.leg_sweep.proofs.NearNodes.{near_is, is_near_passes}
 use Rattle.leg_sweep.proofs.Nearness.{x_gap_symmetric, y_gap_symmetric}
 use Rattle.leg_sweep.proofs.Places.{last_furthest}
-use Rattle.leg_sweep.proofs.Progress.{Contains-filter, Contains-from_filter}
 use Rattle.leg_sweep.proofs.Turns.{ordered_below}
 
 -- numbers that differ from one another do so in another order
@@ -44,9 +43,7 @@ apart_moved xs ys moved apart i j d low high =
 
 -- the first numbers differ from one another
 range_apart : (n : ℕ) → AllPairs (λ x y. x ≢ y) (range_with_len 0 n)
-range_apart n i j d low high same =
-    let high_is : j < n = omega (arith, length-range_with_len 0 n, high) in
-    omega (arith, same, low, get_or-range_with_len 0 n i d (omega arith), get_or-range_with_len 0 n j d high_is)
+range_apart n i j d low high same = omega (arith, same, range_rises 0 n i j d low high)
 
 module _ {X : Type 0} where
   -- whether there is an element with a number, and it passes a test
@@ -65,7 +62,7 @@ module _ {X : Type 0} where
   count_at test xs (suc n) few =
       let within : n < length xs = omega (arith, few) in
       let next : n + 1 ≡ suc n = omega arith in
-      let numbers : range_with_len 0 (suc n) ≡ range_with_len 0 n ++ n ∷ [] = rw next at (numbers_more n) in
+      let numbers : range_with_len 0 (suc n) ≡ range_with_len 0 n ++ n ∷ [] = rw next at (range_more 0 n n (omega arith)) in
       elim (slice_get_cases xs n).1 [
         | inl (x, inside, there, is) ↦
             let grown = rw (is, next) at (sum_by_more (λ (y : X). cond (test y) 1 0) xs n x within) in
@@ -168,7 +165,7 @@ module _ {Item : Type 0} (Holds : Item → Item → Type 0) (rect_of : Item → 
       let within : x < length rects = omega (arith, long, slice_get_within items x a got) in
       let numbers = numbers_on (map layer_of items) (layer_of b) (length rects) in
       let on : is_on (map layer_of items) (layer_of b) x ≡ true = eq-eqb _ _ (get_or_mapped layer_of items x a 0 got ∙ same) in
-      let listed = Contains-filter (is_on (map layer_of items) (layer_of b)) (range_with_len 0 (length rects)) x (below_number (length rects) x within) on in
+      let listed = Contains-filter (is_on (map layer_of items) (layer_of b)) x (range_with_len 0 (length rects)) on (below_number (length rects) x within) in
       let in_nodes = Contains-permutation numbers (numbers_of of_layer) x on_layer_nodes.once listed in
       let gaps = rw same at (law a b holds) in
       let near =
@@ -179,8 +176,8 @@ module _ {Item : Type 0} (Holds : Item → Item → Type 0) (rect_of : Item → 
         x = omega (arith, gaps.0, x_gap_is x a got);
         y = omega (arith, gaps.1, y_gap_is x a got);
       }) in
-      Contains-filter (λ y. ltb y n) (near_numbers rects (rect_numbered rects n) (reach_of (layer_of b)) of_layer) x
-      (Contains-filter (is_near rects (rect_numbered rects n) (reach_of (layer_of b))) (numbers_of of_layer) x in_nodes near) (lt-ltb x n earlier)
+      Contains-filter (λ y. ltb y n) x (near_numbers rects (rect_numbered rects n) (reach_of (layer_of b)) of_layer) (lt-ltb x n earlier)
+      (Contains-filter (is_near rects (rect_numbered rects n) (reach_of (layer_of b))) x (numbers_of of_layer) near in_nodes)
 
   found_apart : AllPairs (λ x y. x ≢ y) near_found
   found_apart =

@@ -1,13 +1,14 @@
 -- How the nodes of an index are put together.
-use Rattle.std.proofs.Common.{◌≡◌, ℕ, ◌+◌, ◌-◌, ◌≤◌, ◌<◌, List, [], ◌∷◌, ◌++◌, length, drop, map, All, Contains, refl, sym, ap, ◌∙◌, arith, length-append, append_assoc}
+use Rattle.std.proofs.Common.{◌≡◌, ℕ, ◌+◌, ◌-◌, ◌≤◌, ◌<◌, List, [], ◌∷◌, ◌++◌, length, drop, map, All, refl, ◌∙◌, arith, length-append, append_assoc}
 use Rattle.std.specs.List.{range_with_len}
 use Rattle.std.specs.Prelude.{IsPermutation}
 use Rattle.std.proofs.lemmas.Int.{ints}
-use Rattle.std.proofs.lemmas.List.{drop_at, set_at, map-id, length-map, get_or-map}
+use Rattle.std.proofs.lemmas.List.{drop_at, set_at, length-map, get_or-map}
 use Rattle.std.proofs.lemmas.List.Concat.{flat_map-append}
 use Rattle.std.proofs.lemmas.List.Elements.{All-nil, All-cons, All-append, All-take, All-weaker}
-use Rattle.std.proofs.lemmas.List.FromFn.{map-range_with_len_more, length-range_with_len, get_or-range_with_len}
 use Rattle.std.proofs.lemmas.List.Sorted.{IsPermutation-map, Contains-permutation}
+use Rattle.leg_lemmas.proofs.Contained.{All-from_contains}
+use Rattle.leg_lemmas.proofs.Ranges.{in_range, range_within}
 use Rattle.leg_geom.specs.Plane.{RectModel}
 use Rattle.leg_sweep.specs.declared.bounds.Bounds.{Bounds}
 use Rattle.leg_sweep.specs.declared.node.Content.TheVariants.{Rect}
@@ -85,24 +86,11 @@ module _ (rects : List RectModel) where
         named = rw g.group a.named;
       }
 
--- one more number
-pub range_more : (first n number : ℕ) → first + n ≡ number → range_with_len first (n + 1) ≡ range_with_len first n ++ number ∷ []
-range_more first n number is =
-    sym (map-id (range_with_len first (n + 1))) ∙ map-range_with_len_more (λ (k : ℕ). k) first n number is
-    ∙ ap (λ ks. ks ++ number ∷ []) (map-id (range_with_len first n))
-
 -- the numbers from one on, below another
-pub in_range : (first end number : ℕ) → first ≤ number → number < end → Contains (range_with_len first (end - first)) number
-in_range first end number low high =
-    let count = length-range_with_len first (end - first) in
-    let at = get_or-range_with_len first (end - first) (number - first) number (omega (arith, low, high)) in
-    (number - first, omega (arith, count, low, high), omega (arith, at, low))
-
-pub range_below : (first end : ℕ) → first ≤ end → All (λ (number : ℕ). number < end) (range_with_len first (end - first))
-range_below first end low k d within =
-    let count = length-range_with_len first (end - first) in
-    let at = get_or-range_with_len first (end - first) k d (omega (arith, count, within)) in
-    omega (arith, at, count, within, low)
+range_below : (first end : ℕ) → first ≤ end → All (λ (number : ℕ). number < end) (range_with_len first (end - first))
+range_below first end low =
+    All-from_contains (λ (number : ℕ). number < end) (range_with_len first (end - first))
+    (λ number has. omega (arith, low, (range_within first (end - first) number has).1))
 
 -- rectangles, in whatever order, have nodes
 pub nodes_are : (rects : List RectModel) (keys sorted : List (ℕ × ℕ)) (bounds : Bounds) (nodes : List Node) → IsPermutation keys sorted
@@ -122,7 +110,7 @@ pub nodes_from : (rects : List RectModel) (first : ℕ) (keys : List (ℕ × ℕ
 nodes_from rects first keys nodes all are = record {
   forest = are.forest;
   right = are.right;
-  all = λ number low high. Contains-permutation _ _ number are.once (rw all (in_range first (length rects) number low high));
+  all = λ number low high. Contains-permutation _ _ number are.once (rw all (in_range first (length rects - first) number low (omega (arith, low, high))));
 }
 
 -- the keys of numbers from one on speak of rectangles

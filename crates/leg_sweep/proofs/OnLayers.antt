@@ -7,7 +7,7 @@ use Rattle.std.proofs.lemmas.Bool.{eqb-true, eq-eqb, and_parts}
 use Rattle.std.proofs.lemmas.List.{length-map}
 use Rattle.std.proofs.lemmas.List.FromFn.{fill_by_all}
 use Rattle.leg_geom.specs.Plane.{RectModel}
-use Rattle.leg_sweep.specs.declared.band.Stretch.{Stretch}
+use Rattle.leg_sweep.specs.declared.band.BandRange.{BandRange}
 use Rattle.leg_sweep.specs.Counts.{count_pairs}
 use Rattle.leg_sweep.specs.Steps.Bands.{Waiting, share_band, reach_at, AreByLayer}
 use Rattle.leg_sweep.specs.Steps.Sweep.{unit_square, rect_numbered, test_at, IsLeftToRight}
@@ -44,11 +44,11 @@ module _ (test : ℕ → RectModel → RectModel → Bool) (reach_of : ℕ → �
 pub on_layers : {Item : Type 0} (test : ℕ → RectModel → RectModel → Bool) (reach_of : ℕ → ℕ) (rect_of : Item → RectModel) (layer_of : Item → ℕ)
     (items : List Item)
     → ((reach i j : ℕ) → test_at (test reach) (map rect_of items) i j ≡ test_at (test reach) (map rect_of items) j i)
-    → (stretches : List Stretch) (bands : List Waiting) (order : List ℕ) → IsLeftToRight (map rect_of items) order
-    → AreByLayer (map layer_of items) reach_of stretches bands
-    → count_pairs (λ x y. share_band stretches x y && test_at (test (reach_at stretches bands x)) (map rect_of items) x y) order
+    → (ranges : List BandRange) (bands : List Waiting) (order : List ℕ) → IsLeftToRight (map rect_of items) order
+    → AreByLayer (map layer_of items) reach_of ranges bands
+    → count_pairs (λ x y. share_band ranges x y && test_at (test (reach_at ranges bands x)) (map rect_of items) x y) order
     ≤ count_pairs (λ a b. (layer_of a == layer_of b) && test (reach_of (layer_of a)) (rect_of a) (rect_of b)) items
-on_layers {Item} test reach_of rect_of layer_of items symmetric stretches bands order sorted by_layer =
+on_layers {Item} test reach_of rect_of layer_of items symmetric ranges bands order sorted by_layer =
     let rects = map rect_of items in
     let layers = map layer_of items in
     let numbers = range_with_len 0 (length rects) in
@@ -60,9 +60,9 @@ on_layers {Item} test reach_of rect_of layer_of items symmetric stretches bands 
     let inside : get_or order place.0 0 < length layers =
     omega (arith, order_below rects order sorted place.0 place.1, length-map items rect_of, length-map items layer_of) in
     rw place.2 at inside in
-    let fewer = count_pairs-le (λ x y. share_band stretches x y && test_at (test (reach_at stretches bands x)) rects x y) by_number order
+    let fewer = count_pairs-le (λ x y. share_band ranges x y && test_at (test (reach_at ranges bands x)) rects x y) by_number order
     (λ x y in_x in_y passes.
-    let split = and_parts (share_band stretches x y) (test_at (test (reach_at stretches bands x)) rects x y) passes in
+    let split = and_parts (share_band ranges x y) (test_at (test (reach_at ranges bands x)) rects x y) passes in
     let same = by_layer.apart x y (below x in_x) (below y in_y) split.0 in
     both_true (eq-eqb _ _ same) (rw (by_layer.reach x (below x in_x)) at split.1)) in
     let moved = count_pairs-IsPermutation by_number (layer_symmetric test reach_of rects layers symmetric) numbers order sorted.numbers in

@@ -5,37 +5,37 @@ use Rattle.std.proofs.lemmas.List.{get_or-replicate, get_or_past, length-replica
 use Rattle.std.proofs.lemmas.List.Sums.{sum_by-cons}
 use Rattle.leg_geom.specs.Plane.{RectModel}
 use Rattle.leg_geom.specs.Gap.{x_gap, y_gap}
-use Rattle.leg_sweep.specs.declared.band.Stretch.{Stretch}
+use Rattle.leg_sweep.specs.declared.band.BandRange.{BandRange}
 use Rattle.leg_sweep.specs.Counts.{near_along_x, near_along_both, count_pairs}
-use Rattle.leg_sweep.specs.Steps.Bands.{empty_band, waiting_at, stretch_at, entries_at, reach_at, share_band, near_in_band, near_both_in_band, AreStretches, AreEmpty}
+use Rattle.leg_sweep.specs.Steps.Bands.{empty_band, waiting_at, range_at, entries_at, reach_at, share_band, near_in_band, near_both_in_band, AreBandRanges, AreEmpty}
 use Rattle.leg_sweep.specs.Steps.Sweep.{test_at}
 use Rattle.leg_sweep.proofs.Counts.{count_pairs-le}
 
--- the stretches of so many items
-abbrev pub lowest : Stretch
+-- the ranges of so many items
+abbrev pub lowest : BandRange
 lowest = record { first = 0; last = 0 }
 
-pub lowest_at : (n x : ℕ) → stretch_at (replicate n lowest) x ≡ lowest
+pub lowest_at : (n x : ℕ) → range_at (replicate n lowest) x ≡ lowest
 lowest_at n x =
     elim (cases_lt x n) [
       | inl within ↦ get_or-replicate n x lowest lowest within
       | inr past ↦ get_or_past (replicate n lowest) x lowest (omega (arith, past, length-replicate n lowest))
     ]
 
-first_is : (n x : ℕ) → (stretch_at (replicate n lowest) x).first ≡ 0
-first_is n x = ap (λ (s : Stretch). s.first) (lowest_at n x)
+first_is : (n x : ℕ) → (range_at (replicate n lowest) x).first ≡ 0
+first_is n x = ap (λ (s : BandRange). s.first) (lowest_at n x)
 
-last_is : (n x : ℕ) → (stretch_at (replicate n lowest) x).last ≡ 0
-last_is n x = ap (λ (s : Stretch). s.last) (lowest_at n x)
+last_is : (n x : ℕ) → (range_at (replicate n lowest) x).last ≡ 0
+last_is n x = ap (λ (s : BandRange). s.last) (lowest_at n x)
 
 -- their reach
 pub reach_one : (n x reach : ℕ) → reach_at (replicate n lowest) (empty_band reach ∷ []) x ≡ reach
-reach_one n x reach = ap (λ (s : Stretch). (waiting_at (empty_band reach ∷ []) s.first).reach) (lowest_at n x)
+reach_one n x reach = ap (λ (s : BandRange). (waiting_at (empty_band reach ∷ []) s.first).reach) (lowest_at n x)
 
 module _ {Item : Type 0} (Holds : Item → Item → Type 0) (rect_of : Item → RectModel) (items : List Item) (reach : ℕ)
     (near : (a b : Item) → Holds a b → (x_gap (rect_of a) (rect_of b) ≤ reach) × (y_gap (rect_of a) (rect_of b) ≤ reach)) where
-  pub one_stretch : AreStretches Holds rect_of items (replicate (length items) lowest) (empty_band reach ∷ [])
-  one_stretch =
+  pub one_range : AreBandRanges Holds rect_of items (replicate (length items) lowest) (empty_band reach ∷ [])
+  one_range =
       let n : ℕ = length items in
       record {
         count = length-replicate n lowest;

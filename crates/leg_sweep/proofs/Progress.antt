@@ -1,40 +1,9 @@
--- Places of numbers in an order, and what a filter keeps.
-use Rattle.std.proofs.Common.{◌≡◌, ℕ, ◌<◌, ◌≤◌, Bool, true, List, [], ◌∷◌, length, get_or, take, filter, Contains, IsPermutation, inl, inr, sym, ◌∙◌, arith}
+-- Places of numbers in an order.
+use Rattle.std.proofs.Common.{◌≡◌, ℕ, ◌<◌, ◌≤◌, List, length, get_or, take, Contains, IsPermutation, sym, ◌∙◌, arith}
 use Rattle.std.specs.List.{range_with_len}
-use Rattle.std.proofs.lemmas.Bool.{cases_Bool}
 use Rattle.std.proofs.lemmas.List.{get_or-take, get_or_default, length-take-le}
 use Rattle.std.proofs.lemmas.List.FromFn.{length-range_with_len, get_or-range_with_len}
 use Rattle.std.proofs.lemmas.List.Sorted.{Contains-permutation}
-use Rattle.leg_lemmas.proofs.Contained.{Contains-nil, Contains-here, Contains-there, Contains-cons_cases}
-
--- a filter keeps what passes
-pub Contains-filter : {X : Type 0} (test : X → Bool) (xs : List X) (x : X) → Contains xs x → test x ≡ true → Contains (filter test xs) x
-Contains-filter test [] x c passes = c
-Contains-filter test (y ∷ ys) x c passes =
-    elim (Contains-cons_cases y ys x c) [
-      | inl here ↦
-          let front : test y ≡ true = rw here passes in
-          let at_front : Contains (y ∷ filter test ys) x = rw (← here) (Contains-here y (filter test ys)) in
-          rw front at_front
-      | inr later ↦
-          let rest = Contains-filter test ys x later passes in
-          elim (cases_Bool (test y)) [
-            | inl kept ↦ rw kept (Contains-there y (filter test ys) x rest)
-            | inr dropped ↦ rw dropped rest
-          ]
-    ]
-
--- and nothing else
-pub Contains-from_filter : {X : Type 0} (test : X → Bool) (xs : List X) (x : X) → Contains (filter test xs) x → Contains xs x × (test x ≡ true)
-Contains-from_filter test [] x c = absurd (Contains-nil x c)
-Contains-from_filter test (y ∷ ys) x c =
-    elim (cases_Bool (test y)) [
-      | inl kept ↦ elim (Contains-cons_cases y (filter test ys) x (rw kept at c)) [
-        | inl here ↦ (rw (← here) (Contains-here y ys), rw (← here) kept)
-        | inr later ↦ let rest = Contains-from_filter test ys x later in (Contains-there y ys x rest.0, rest.1)
-      ]
-      | inr dropped ↦ let rest = Contains-from_filter test ys x (rw dropped at c) in (Contains-there y ys x rest.0, rest.1)
-    ]
 
 -- what stands in the front of a list has a place there
 pub place_in_front : (xs : List ℕ) (i x : ℕ) → i ≤ length xs → Contains (take i xs) x → (a : ℕ) × (a < i) × (get_or xs a 0 ≡ x)

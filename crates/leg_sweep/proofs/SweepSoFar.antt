@@ -6,8 +6,9 @@ use Rattle.std.proofs.lemmas.List.Elements.{All-append, All-weaker, Contains-app
 use Rattle.std.proofs.lemmas.List.Kept.{AllPairs-filter}
 use Rattle.std.proofs.lemmas.List.Quantifiers.{all_pairs_push}
 use Rattle.leg_lemmas.proofs.Rising.{AllPairs-append_by}
+use Rattle.leg_lemmas.proofs.Contained.{Contains-filter, Contains-from_filter}
 use Rattle.leg_sweep.specs.Steps.Sweep.{ordered, AreNewPairs}
-use Rattle.leg_sweep.proofs.Progress.{Contains-filter, Contains-from_filter, place_in_front}
+use Rattle.leg_sweep.proofs.Progress.{place_in_front}
 use Rattle.leg_sweep.proofs.Turns.{ordered_below, ordered_above}
 
 -- The items up to a place of the order are in. Those that wait in a band are of those, and stand in it; each item that is near
@@ -94,8 +95,8 @@ module _ (narrow : ℕ → Bool) (first last new : ℕ) (upward : first ≤ last
           | inl here ↦
               let old : Contains (begun first) x = rw here at c in
               rw (here, visited.begun_first) (Contains-append_left (filter narrow (begun first)) (new ∷ []) x
-              (Contains-filter narrow (begun first) x old (near (omega (arith, here)) (omega (arith, here, upward)))))
-          | inr through ↦ rw (visited.begun_through k through.0 through.1) (Contains-filter narrow (begun k) x c (near (omega (arith, through.0)) through.1))
+              (Contains-filter narrow x (begun first) (near (omega (arith, here)) (omega (arith, here, upward))) old))
+          | inr through ↦ rw (visited.begun_through k through.0 through.1) (Contains-filter narrow x (begun k) (near (omega (arith, through.0)) through.1) c)
         ]
       ]
 
@@ -106,7 +107,7 @@ module _ (narrow : ℕ → Bool) (first last new : ℕ) (upward : first ≤ last
         | inr inside ↦ elim inside [
           | inl here ↦
               let old : Contains (passing first) x = rw here at c in
-              rw (here, visited.passing_first) (Contains-filter narrow (passing first) x old (near here))
+              rw (here, visited.passing_first) (Contains-filter narrow x (passing first) (near here) old)
           | inr through ↦ rw (visited.passing_through k through.0 through.1) (Contains-append_left (passing k) (new ∷ []) x c)
         ]
       ]

@@ -1,4 +1,4 @@
-//! Bands: stretches of y in which items wait for later ones.
+//! Bands: intervals of y in which items wait for later ones.
 
 ghost use Rattle.std.specs.Prelude.{◌≡◌};
 ghost use Rattle.leg_sweep.specs.Steps.Bands.{empty_band};
@@ -8,7 +8,7 @@ use std::marker::Model;
 
 /// The bands in which an item is, by their numbers: from the first to the last.
 #[derive(Clone, Copy)]
-pub(crate) struct Stretch {
+pub(crate) struct BandRange {
     pub(crate) first: u32,
     pub(crate) last: u32,
 }

@@ -6,7 +6,7 @@ ghost use Rattle.leg_sweep.specs.Counts.{near_on_layer_along_x, near_on_layer, c
 
 use crate::crowding::are_crowded;
 use crate::few::few_pairs;
-use crate::grid::stretches_and_bands;
+use crate::grid::ranges_and_bands;
 use crate::left_to_right::left_to_right;
 use crate::near_pairs::{are_reaches_short, near_pairs};
 use crate::pair_list::sort_pairs;
@@ -89,10 +89,10 @@ fn search<R: LayeredRule, S: PairSink, A: Allocator + Copy>(
         return few_pairs(items, rule, sink);
     }
     let order = left_to_right(alloc, items, rule)?;
-    let (stretches, mut bands) = stretches_and_bands(alloc, items, rule)?;
-    if are_crowded(items, rule, &stretches) && are_reaches_short(rule) {
+    let (ranges, mut bands) = ranges_and_bands(alloc, items, rule)?;
+    if are_crowded(items, rule, &ranges) && are_reaches_short(rule) {
         return near_pairs(alloc, items, rule, sink, &order);
     }
-    sweep(alloc, items, rule, sink, &order, &stretches, &mut bands)?;
+    sweep(alloc, items, rule, sink, &order, &ranges, &mut bands)?;
     Ok(())
 }

@@ -2,7 +2,7 @@
 
 ghost use Rattle.std.specs.Prelude.{◌≡◌, ◌≤◌, ◌<◌, ◌+◌, ◌-◌, ◌^◌, length};
 
-use crate::band::Stretch;
+use crate::band::BandRange;
 use crate::rule::LayeredRule;
 
 /// How many looks an item takes, on average, where bands are crowded. With fewer a sweep is faster than an index.
@@ -16,11 +16,11 @@ const ITEMS_A_TRY: usize = 32;
 pub(crate) fn are_crowded<R: LayeredRule>(
     items: &[R::Item],
     rule: &mut R,
-    stretches: &[Stretch],
+    ranges: &[BandRange],
 ) -> bool
     requires some { 0 < length items.now }
     requires few { length items.now < 2 ^ 32 }
-    requires all { length stretches.now ≡ length items.now }
+    requires all { length ranges.now ≡ length items.now }
     requires unseen { R.looks_of rule.old ≡ 0 }
     ensures looks { R.looks_of rule.new ≤ length items.now }
     ensures tests { R.tests_of rule.new ≡ R.tests_of rule.old }
@@ -36,7 +36,7 @@ pub(crate) fn are_crowded<R: LayeredRule>(
             place_below(items.len(), first),
             place_below(items.len(), seed),
         );
-        if share_band(stretches[a], stretches[b]) && are_near(rule, &items[a], &items[b]) {
+        if share_band(ranges[a], ranges[b]) && are_near(rule, &items[a], &items[b]) {
             near += 1;
         }
     }
@@ -57,8 +57,8 @@ fn place_below(length: usize, number: u64) -> usize
     (number >> 32) as usize % length
 }
 
-/// Whether there is a band in both stretches.
-fn share_band(a: Stretch, b: Stretch) -> bool {
+/// Whether there is a band in both ranges.
+fn share_band(a: BandRange, b: BandRange) -> bool {
     a.first <= b.last && b.first <= a.last
 }
 

@@ -3,10 +3,10 @@
 ghost use Rattle.std.specs.Prelude.{◌≡◌, ◌≤◌, ◌<◌, ◌+◌, ◌*◌, ◌/◌, ◌^◌, ◌++◌, length, map, replicate, sum_by, All, IfOk, OnOk};
 ghost use Rattle.std.specs.List.{range_with_len};
 ghost use Rattle.leg_geom.specs.Plane.{IsCoordinate, IsRect};
-ghost use Rattle.leg_sweep.specs.Steps.Bands.{empty_band, entries_at, AreStretches, AreEmpty, AreByLayer};
-ghost use Rattle.leg_sweep.specs.Steps.Grid.{height_of, bands_at, span_with, stretch_in, IsSmall, AreSpans, AreBandsOf, IsGrid, BeginsIn, AreBandsBelow};
+ghost use Rattle.leg_sweep.specs.Steps.Bands.{empty_band, entries_at, AreBandRanges, AreEmpty, AreByLayer};
+ghost use Rattle.leg_sweep.specs.Steps.Grid.{height_of, bands_at, span_with, range_in, IsSmall, AreSpans, AreBandsOf, IsGrid, BeginsIn, AreBandsBelow};
 
-use crate::band::{Band, Stretch};
+use crate::band::{Band, BandRange};
 use crate::rule::LayeredRule;
 use leg_geom::COORDINATE_LIMIT;
 use std::alloc::{AllocError, Allocator};
@@ -41,22 +41,22 @@ struct LayerBands {
 
 /// The bands in which each item is, and all bands, in which no item waits yet. The bands of a layer are of one height,
 /// and are no other layer's. An item is in three bands at most, on average.
-pub(crate) fn stretches_and_bands<R: LayeredRule, A: Allocator + Copy>(
+pub(crate) fn ranges_and_bands<R: LayeredRule, A: Allocator + Copy>(
     alloc: A,
     items: &[R::Item],
     rule: &R,
-) -> Result<(Vec<Stretch, A>, Vec<Band<A>, A>), AllocError>
+) -> Result<(Vec<BandRange, A>, Vec<Band<A>, A>), AllocError>
     requires few { length items.now < 2 ^ 32 }
-    ensures stretches { IfOk result (λ both. AreStretches (R.Holds (R.fixed rule.now)) (R.rect_of (R.fixed rule.now)) items.now both.0.items both.1.items) }
+    ensures ranges { IfOk result (λ both. AreBandRanges (R.Holds (R.fixed rule.now)) (R.rect_of (R.fixed rule.now)) items.now both.0.items both.1.items) }
     ensures empty { IfOk result (λ both. AreEmpty both.1.items) }
     ensures entries { IfOk result (λ both. sum_by (entries_at both.0.items) (range_with_len 0 (length items.now)) ≤ 3 * length items.now) }
     ensures layers { IfOk result (λ both. AreByLayer (map (R.layer_of (R.fixed rule.now)) items.now) (R.layer_reach_of (R.fixed rule.now)) both.0.items both.1.items) }
 {
     let spans = layer_spans(alloc, items, rule)?;
     let grid = layer_bands(alloc, rule, &spans)?;
-    let stretches = item_stretches(alloc, items, rule, &grid)?;
+    let ranges = item_ranges(alloc, items, rule, &grid)?;
     let bands = empty_bands(alloc, rule, &grid)?;
-    Ok((stretches, bands))
+    Ok((ranges, bands))
 }
 
 /// What the items on each layer span.
@@ -169,34 +169,34 @@ fn band_height(span: LayerSpan, spread: u64, reach: u64) -> u64
 }
 
 /// The bands in which each item is.
-fn item_stretches<R: LayeredRule, A: Allocator>(
+fn item_ranges<R: LayeredRule, A: Allocator>(
     alloc: A,
     items: &[R::Item],
     rule: &R,
     grid: &[LayerBands],
-) -> Result<Vec<Stretch, A>, AllocError>
+) -> Result<Vec<BandRange, A>, AllocError>
     requires layers { length grid.now ≡ R.layers_of (R.fixed rule.now) }
     requires begin { All (λ a. BeginsIn (bands_at grid.now (R.layer_of (R.fixed rule.now) a)) (R.rect_of (R.fixed rule.now) a)) items.now }
-    ensures { IfOk result (λ stretches. stretches.items
-        ≡ map (λ a. stretch_in (bands_at grid.now (R.layer_of (R.fixed rule.now) a)) (R.rect_of (R.fixed rule.now) a)) items.now) }
+    ensures { IfOk result (λ ranges. ranges.items
+        ≡ map (λ a. range_in (bands_at grid.now (R.layer_of (R.fixed rule.now) a)) (R.rect_of (R.fixed rule.now) a)) items.now) }
 {
-    let mut stretches = Vec::with_capacity(alloc, items.len())?;
+    let mut ranges = Vec::with_capacity(alloc, items.len())?;
     for item in items {
         let bands = grid[rule.layer(item)];
-        stretches.push(stretch_of(rule, item, bands))?;
+        ranges.push(range_of(rule, item, bands))?;
     }
-    Ok(stretches)
+    Ok(ranges)
 }
 
 /// The bands in which an item is: from that of its bottom edge to that of what lies the reach above its top edge.
-fn stretch_of<R: LayeredRule>(rule: &R, item: &R::Item, bands: LayerBands) -> Stretch
+fn range_of<R: LayeredRule>(rule: &R, item: &R::Item, bands: LayerBands) -> BandRange
     requires { BeginsIn bands (R.rect_of (R.fixed rule.now) item.now) }
-    ensures { result ≡ stretch_in bands (R.rect_of (R.fixed rule.now) item.now) }
+    ensures { result ≡ range_in bands (R.rect_of (R.fixed rule.now) item.now) }
 {
     let bottom = above_lowest(rule.bottom(item)) - bands.low;
     let top = above_lowest(rule.top(item)) + bands.reach - bands.low;
     let last = (top / bands.height).min(bands.count as u64 - 1);
-    Stretch {
+    BandRange {
         first: bands.first + (bottom / bands.height) as u32,
         last: bands.first + last as u32,
     }

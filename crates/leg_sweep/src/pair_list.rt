@@ -6,7 +6,7 @@ ghost use Rattle.leg_sweep.specs.Counts.{near_along_x, near_along_both, count_pa
 ghost use Rattle.leg_sweep.specs.Steps.Bands.{empty_band};
 ghost use Rattle.leg_sweep.specs.Steps.Sweep.{pair_cmp};
 
-use crate::band::{Band, Stretch};
+use crate::band::{Band, BandRange};
 use crate::left_to_right::left_to_right;
 use crate::rule::PairRule;
 use crate::sweep::sweep;
@@ -98,12 +98,10 @@ pub fn pairs_counted<R: PairRule, A: Allocator + Copy>(
     ensures same { R.fixed rule.new ≡ R.fixed rule.old }
 {
     let order = left_to_right(alloc, items, rule)?;
-    let stretches = lowest_stretches(alloc, items.len())?;
+    let ranges = lowest_ranges(alloc, items.len())?;
     let mut bands = one_band(alloc, reach_of(rule))?;
     let mut pairs = Vec::new(alloc);
-    sweep(
-        alloc, items, rule, &mut pairs, &order, &stretches, &mut bands,
-    )?;
+    sweep(alloc, items, rule, &mut pairs, &order, &ranges, &mut bands)?;
     sort_pairs(&mut pairs);
     Ok(Found {
         pairs: PairList { pairs },
@@ -120,10 +118,10 @@ fn reach_of<R: PairRule>(rule: &R) -> u64
 }
 
 /// For each of this many items the lowest band alone.
-fn lowest_stretches<A: Allocator>(alloc: A, count: usize) -> Result<Vec<Stretch, A>, AllocError>
-    ensures { IfOk result (λ stretches. stretches.items ≡ replicate count (record { first = 0; last = 0 })) }
+fn lowest_ranges<A: Allocator>(alloc: A, count: usize) -> Result<Vec<BandRange, A>, AllocError>
+    ensures { IfOk result (λ ranges. ranges.items ≡ replicate count (record { first = 0; last = 0 })) }
 {
-    Vec::from_elem(alloc, Stretch { first: 0, last: 0 }, count)
+    Vec::from_elem(alloc, BandRange { first: 0, last: 0 }, count)
 }
 
 /// A single band of this reach, for all items.

@@ -6,7 +6,7 @@ ghost use Rattle.leg_sweep.specs.Counts.{near_along_x, near_along_both};
 ghost use Rattle.leg_sweep.specs.Steps.Bands.{waiting_at, after_begin, after_pass, met, waiting_count, AreVisited, CanVisit};
 ghost use Rattle.leg_sweep.specs.Steps.Sweep.{test_at, AreNewPairs, CanMeet};
 
-use crate::band::{Band, Stretch};
+use crate::band::{Band, BandRange};
 use crate::rule::PairRule;
 use crate::sink::PairSink;
 use crate::waiting::meet_waiting;
@@ -20,31 +20,31 @@ pub(crate) fn visit<R: PairRule, S: PairSink, A: Allocator>(
     rule: &mut R,
     sink: &mut S,
     bands: &mut [Band<A>],
-    stretch: Stretch,
+    range: BandRange,
     new: u32,
     kept: &mut Vec<u32, A>,
 ) -> Result<(), AllocError>
     requires few { length items.now < 2 ^ 32 }
     requires room { length items.now ≤ S.room_of sink.old }
-    requires can { CanVisit (R.Holds (R.fixed rule.old)) (R.rect_of (R.fixed rule.old)) items.now bands.old stretch.first stretch.last new }
+    requires can { CanVisit (R.Holds (R.fixed rule.old)) (R.rect_of (R.fixed rule.old)) items.now bands.old range.first range.last new }
     requires counts { R.tests_of rule.old ≤ R.looks_of rule.old }
-    requires looks { R.looks_of rule.old + length (met bands.old stretch.first (stretch.last - stretch.first)) < 2 ^ 64 }
-    ensures visited { let reach = (waiting_at bands.old stretch.first).reach in
-        OnOk result (AreVisited (λ x. test_at (near_along_x reach) (map (R.rect_of (R.fixed rule.old)) items.now) x new) stretch.first stretch.last new bands.old bands.new) }
-    ensures found { let met = met bands.old stretch.first (stretch.last - stretch.first) in let reach = (waiting_at bands.old stretch.first).reach in
+    requires looks { R.looks_of rule.old + length (met bands.old range.first (range.last - range.first)) < 2 ^ 64 }
+    ensures visited { let reach = (waiting_at bands.old range.first).reach in
+        OnOk result (AreVisited (λ x. test_at (near_along_x reach) (map (R.rect_of (R.fixed rule.old)) items.now) x new) range.first range.last new bands.old bands.new) }
+    ensures found { let met = met bands.old range.first (range.last - range.first) in let reach = (waiting_at bands.old range.first).reach in
         OnOk result (AreNewPairs S.Takes (IsPair (R.Holds (R.fixed rule.old)) items.now) met new
         (count_by (λ x. test_at (near_along_both reach) (map (R.rect_of (R.fixed rule.old)) items.now) x new) met) sink.old sink.new) }
-    ensures looks { OnOk result (R.looks_of rule.new ≡ R.looks_of rule.old + length (met bands.old stretch.first (stretch.last - stretch.first))) }
-    ensures tests { let reach = (waiting_at bands.old stretch.first).reach in OnOk result (R.tests_of rule.new ≡ R.tests_of rule.old
-        + count_by (λ x. test_at (near_along_both reach) (map (R.rect_of (R.fixed rule.old)) items.now) x new) (met bands.old stretch.first (stretch.last - stretch.first))) }
-    ensures left { let met = met bands.old stretch.first (stretch.last - stretch.first) in let reach = (waiting_at bands.old stretch.first).reach in
+    ensures looks { OnOk result (R.looks_of rule.new ≡ R.looks_of rule.old + length (met bands.old range.first (range.last - range.first))) }
+    ensures tests { let reach = (waiting_at bands.old range.first).reach in OnOk result (R.tests_of rule.new ≡ R.tests_of rule.old
+        + count_by (λ x. test_at (near_along_both reach) (map (R.rect_of (R.fixed rule.old)) items.now) x new) (met bands.old range.first (range.last - range.first))) }
+    ensures left { let met = met bands.old range.first (range.last - range.first) in let reach = (waiting_at bands.old range.first).reach in
         OnOk result (waiting_count bands.new + length met ≡ waiting_count bands.old
-        + count_by (λ x. test_at (near_along_x reach) (map (R.rect_of (R.fixed rule.old)) items.now) x new) met + (stretch.last + 1 - stretch.first)) }
+        + count_by (λ x. test_at (near_along_x reach) (map (R.rect_of (R.fixed rule.old)) items.now) x new) met + (range.last + 1 - range.first)) }
     ensures same { R.fixed rule.new ≡ R.fixed rule.old }
     ensures same_room { S.room_of sink.new ≡ S.room_of sink.old }
 {
-    begin(items, rule, sink, bands, stretch.first as usize, new, kept)?;
-    for k in stretch.first as usize..stretch.last as usize {
+    begin(items, rule, sink, bands, range.first as usize, new, kept)?;
+    for k in range.first as usize..range.last as usize {
         pass(items, rule, sink, bands, k + 1, new, kept)?;
     }
     Ok(())

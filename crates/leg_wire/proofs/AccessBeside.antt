@@ -25,8 +25,11 @@ module _ (library : LibraryModel) (shape : Shape) (layer : ℕ) (rect : RectMode
     pub layer_is : layer ≡ shape.layer
     pub close : SharePoint rect shape.rect ⊎ AreNearer (spacing_at library.layers layer) rect shape.rect
 
-  clean_where_far : (net : ℕ) → ¬ AreCloserThan (spacing_at library.layers layer) (net_metal net layer rect) shape → IsClean library (alone shape) net layer rect
-  clean_where_far net far = is_clean library (alone shape) net layer rect (λ s has. subst (λ (s : Shape). ¬ AreCloserThan (spacing_at library.layers layer) (net_metal net layer rect) s) (only_itself shape s has) far)
+  clean_where_far : (net : ℕ) → ¬ AreCloserThan (spacing_at library.layers layer) (net_metal net layer rect) shape
+      → IsClean library (alone shape) net layer rect
+  clean_where_far net far =
+      is_clean library (alone shape) net layer rect
+      (λ s has. subst (λ (s : Shape). ¬ AreCloserThan (spacing_at library.layers layer) (net_metal net layer rect) s) (only_itself shape s has) far)
 
   -- where it is, no metal of another owner
   pub not_clean_near : IsNear → (net : ℕ) → Net net ≢ shape.owner → ¬ IsClean library (alone shape) net layer rect

@@ -1,38 +1,19 @@
 -- Kinds of metal, and the shapes of each.
-use Rattle.std.proofs.Common.{◌≡◌, ◌≢◌, ℕ, ◌+◌, ◌-◌, ◌<◌, ◌≤◌, ◌↔◌, ◌&&◌, ℤ, List, [], ◌∷◌, ◌++◌, length, get_or, set, All, AllPairs, Contains, Some, slice_get, inl, inr, refl, sym, ap, ◌∙◌, arith, length-append}
-use Rattle.std.specs.Bool.{Decides}
-use Rattle.std.specs.Ordering.{int_eq}
+use Rattle.std.proofs.Common.{◌≡◌, ◌≢◌, ℕ, ◌+◌, ◌-◌, ◌<◌, ◌≤◌, ◌↔◌, List, [], ◌∷◌, ◌++◌, length, get_or, set, All, AllPairs, Contains, Some, slice_get, inl, inr, refl, sym, ap, ◌∙◌, arith, length-append}
 use Rattle.std.proofs.lemmas.Bool.{cases_eq, cases_lt}
-use Rattle.std.proofs.lemmas.Bool.Decides.{Decides-and, Decides-int_eq}
 use Rattle.std.proofs.lemmas.List.{length-set, get_or-set_same, get_or-set_other, get_or_append_left, get_or-append_right}
 use Rattle.std.proofs.lemmas.List.Elements.{All-append, All-push, All-weaker, Contains-append_left, Contains-get_or, Contains-push, Contains-push_cases}
 use Rattle.std.proofs.lemmas.List.Quantifiers.{all_pairs_push}
 use Rattle.std.proofs.lemmas.Option.{same_Some, slice_get_within, slice_get_read, get_or_from_slice_get}
-use Rattle.leg_geom.specs.Plane.{RectModel}
 use Rattle.leg_wire.specs.Steps.Kinds.{IsOfKind, AreKinds, AreMembers}
-
-abbrev sides : ℤ → ℤ → ℤ → ℤ → RectModel
-sides x1 y1 x2 y2 = record { x1 = x1; y1 = y1; x2 = x2; y2 = y2 }
-
-same_sides : (x1 y1 x2 y2 u1 v1 u2 v2 : ℤ) → x1 ≡ u1 → y1 ≡ v1 → x2 ≡ u2 → y2 ≡ v2 → sides x1 y1 x2 y2 ≡ sides u1 v1 u2 v2
-same_sides x1 y1 x2 y2 u1 v1 u2 v2 e f g h = cc
-
--- rectangles whose sides are the same
-pub sides_same : (a b : RectModel) → Decides ((int_eq a.x1 b.x1 && int_eq a.x2 b.x2) && (int_eq a.y1 b.y1 && int_eq a.y2 b.y2)) (a ≡ b)
-sides_same a b =
-    let all = Decides-and _ _ (Decides-and _ _ (Decides-int_eq a.x1 b.x1) (Decides-int_eq a.x2 b.x2)) (Decides-and _ _ (Decides-int_eq a.y1 b.y1) (Decides-int_eq a.y2 b.y2)) in (
-      λ is.
-          let f = all.0 is in
-          same_sides a.x1 a.y1 a.x2 a.y2 b.x1 b.y1 b.x2 b.y2 f.0.0 f.1.0 f.0.1 f.1.1,
-      λ same. all.1 ((ap (λ (r : RectModel). r.x1) same, ap (λ (r : RectModel). r.x2) same), (ap (λ (r : RectModel). r.y1) same, ap (λ (r : RectModel). r.y2) same)),
-    )
 
 module _ {Metal : Type 0} (Alike : Metal → Metal → Type 0) where
   -- a kind keeps its number
   pub kind_kept : (kinds more : List Metal) (number : ℕ) (one : Metal) → IsOfKind Alike kinds number one → IsOfKind Alike (kinds ++ more) number one
   kind_kept kinds more number one is =
       let within : number < length kinds = slice_get_within kinds number is.kind is.at in
-      let here : get_or (kinds ++ more) number is.kind ≡ is.kind = get_or_append_left kinds more is.kind number within ∙ get_or_from_slice_get kinds number is.kind is.kind is.at in
+      let here : get_or (kinds ++ more) number is.kind ≡ is.kind =
+      get_or_append_left kinds more is.kind number within ∙ get_or_from_slice_get kinds number is.kind is.kind is.at in
       record {
         kind = is.kind;
         at = slice_get_read (kinds ++ more) (length (kinds ++ more)) number is.kind refl (omega (arith, within, length-append kinds more)) (sym here);
@@ -44,8 +25,13 @@ module _ {Metal : Type 0} (Alike : Metal → Metal → Type 0) where
   kind_pushed kinds number one is alike =
       let long = length-append kinds (one ∷ []) in
       let zero_on : number - length kinds ≡ 0 = omega (arith, is) in
-      let here : get_or (kinds ++ one ∷ []) number one ≡ one = get_or-append_right kinds (one ∷ []) (length kinds) number one refl (omega (arith, is)) ∙ rw zero_on refl in
-      record { kind = one; at = slice_get_read (kinds ++ one ∷ []) (length (kinds ++ one ∷ [])) number one refl (omega (arith, is, long)) (sym here); alike = alike }
+      let here : get_or (kinds ++ one ∷ []) number one ≡ one =
+      get_or-append_right kinds (one ∷ []) (length kinds) number one refl (omega (arith, is)) ∙ rw zero_on refl in
+      record {
+        kind = one;
+        at = slice_get_read (kinds ++ one ∷ []) (length (kinds ++ one ∷ [])) number one refl (omega (arith, is, long)) (sym here);
+        alike = alike;
+      }
 
   -- the kinds of the first shapes
   pub record AreKindsOfFirst (metal : List Metal) (end : ℕ) (kinds : List Metal) (numbers : List ℕ) : Type 0 where
@@ -71,22 +57,26 @@ module _ {Metal : Type 0} (Alike : Metal → Metal → Type 0) where
         among =
             rw grown
             (All-append (Contains metal) kinds more done.among
-            (All-weaker (λ kind. kind ≡ one) (Contains metal) (λ kind same. rw same (i, slice_get_within metal i one at, get_or_from_slice_get metal i one one at)) more own));
+            (All-weaker (λ kind. kind ≡ one) (Contains metal)
+            (λ kind same. rw same (i, slice_get_within metal i one at, get_or_from_slice_get metal i one one at)) more own));
         each = λ k other below there. elim (cases_lt k i) [
           | inl before ↦
-              let same : get_or (numbers ++ number ∷ []) k 0 ≡ get_or numbers k 0 = get_or_append_left numbers (number ∷ []) 0 k (omega (arith, before, done.count)) in
+              let same : get_or (numbers ++ number ∷ []) k 0 ≡ get_or numbers k 0 =
+              get_or_append_left numbers (number ∷ []) 0 k (omega (arith, before, done.count)) in
               rw (same, grown) (kind_kept kinds more (get_or numbers k 0) other (done.each k other before there))
           | inr late ↦
               let here : k ≡ i = omega (arith, late, below) in
               let zero_on : i - i ≡ 0 = omega arith in
-              let last : get_or (numbers ++ number ∷ []) i 0 ≡ number = get_or-append_right numbers (number ∷ []) i i 0 done.count (omega arith) ∙ rw zero_on refl in
+              let last : get_or (numbers ++ number ∷ []) i 0 ≡ number =
+              get_or-append_right numbers (number ∷ []) i i 0 done.count (omega arith) ∙ rw zero_on refl in
               let alike : one ≡ other = same_Some one other (sym at ∙ ap (slice_get metal) (sym here) ∙ there) in
               rw (here, last, ← alike) is
         ];
       }
 
   -- all of them
-  pub kinds_all : (metal : List Metal) (end : ℕ) (kinds : List Metal) (numbers : List ℕ) → end ≡ length metal → AreKindsOfFirst metal end kinds numbers → AreKinds Alike metal kinds numbers
+  pub kinds_all : (metal : List Metal) (end : ℕ) (kinds : List Metal) (numbers : List ℕ) → end ≡ length metal → AreKindsOfFirst metal end kinds numbers
+      → AreKinds Alike metal kinds numbers
   kinds_all metal end kinds numbers all done = record {
     count = done.count ∙ all;
     few = omega (arith, done.few, all);
@@ -158,7 +148,8 @@ members_more numbers i count members done own at low = record {
     )
 
 -- all of them
-pub members_all : (numbers : List ℕ) (end count : ℕ) (members : List (List ℕ)) → end ≡ length numbers → AreMembersOfFirst numbers end count members → AreMembers numbers count members
+pub members_all : (numbers : List ℕ) (end count : ℕ) (members : List (List ℕ)) → end ≡ length numbers → AreMembersOfFirst numbers end count members
+    → AreMembers numbers count members
 members_all numbers end count members all done = record {
   many = done.many;
   each = λ kind k below. (

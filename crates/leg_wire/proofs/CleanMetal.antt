@@ -42,10 +42,12 @@ module _ (library : LibraryModel) (flat : FlatModel) (net layer : ℕ) (rect : R
   abbrev metal : Shape
   metal = net_metal net layer rect
 
-  pub none_close : IsClean library flat net layer rect → (shape : Shape) → Contains flat.shapes shape → ¬ AreCloserThan (spacing_at library.layers layer) metal shape
+  pub none_close : IsClean library flat net layer rect → (shape : Shape) → Contains flat.shapes shape
+      → ¬ AreCloserThan (spacing_at library.layers layer) metal shape
   none_close clean shape has = close_is_bad library metal shape (clean.no_short shape has) (clean.far shape has)
 
-  pub is_clean : ((shape : Shape) → Contains flat.shapes shape → ¬ AreCloserThan (spacing_at library.layers layer) metal shape) → IsClean library flat net layer rect
+  pub is_clean : ((shape : Shape) → Contains flat.shapes shape → ¬ AreCloserThan (spacing_at library.layers layer) metal shape)
+      → IsClean library flat net layer rect
   is_clean none = record {
     no_short = λ shape has short. none shape has (record { comparable = short.comparable; close = inl short.shared });
     far = λ shape has near. none shape has (bad_is_close library metal shape near);
@@ -65,23 +67,30 @@ rect_at (s ∷ shapes) zero shape at = let same : s ≡ shape = cc in rw same re
 rect_at (s ∷ shapes) (suc number) shape at = rect_at shapes number shape at
 
 -- Where none of the shapes near the metal is closer than the distance, none is.
-pub far_from_all : (shapes : List Shape) (distance : ℕ) (metal : Shape) (numbers : List ℕ) → AreNear (rects_of shapes) metal.rect distance numbers → All (IsFarAt shapes distance metal) numbers
-    → (shape : Shape) → Contains shapes shape → ¬ AreCloserThan distance metal shape
+pub far_from_all : (shapes : List Shape) (distance : ℕ) (metal : Shape) (numbers : List ℕ) → AreNear (rects_of shapes) metal.rect distance numbers
+    → All (IsFarAt shapes distance metal) numbers → (shape : Shape) → Contains shapes shape → ¬ AreCloserThan distance metal shape
 far_from_all shapes distance metal numbers near far shape has close =
     let number = has.0 in
     let at : slice_get shapes number ≡ Some shape = slice_get_read shapes (length shapes) number shape refl has.1 (sym has.2) in
     let gaps = AreCloserThan-gaps distance metal shape close in
-    let is_near : IsNear (rects_of shapes) metal.rect distance number = record { other = shape.rect; there = rect_at shapes number shape at; x = gaps.0; y = gaps.1 } in
+    let is_near : IsNear (rects_of shapes) metal.rect distance number = record {
+      other = shape.rect;
+      there = rect_at shapes number shape at;
+      x = gaps.0;
+      y = gaps.1;
+    } in
     All-contains (IsFarAt shapes distance metal) numbers number far (near.all number is_near) shape at close
 
 -- the shape that was read is the one of this number
-pub far_at : (shapes : List Shape) (distance : ℕ) (metal : Shape) (number : ℕ) (shape : Shape) → slice_get shapes number ≡ Some shape → ¬ AreCloserThan distance metal shape → IsFarAt shapes distance metal number
+pub far_at : (shapes : List Shape) (distance : ℕ) (metal : Shape) (number : ℕ) (shape : Shape) → slice_get shapes number ≡ Some shape
+    → ¬ AreCloserThan distance metal shape → IsFarAt shapes distance metal number
 far_at shapes distance metal number shape at far other there close =
     let same : other ≡ shape = cc in
     far (rw (← same) close)
 
 -- The next of what is left is the number of a shape.
-pub next_within : (shapes : List Shape) (rects : List RectModel) (rect : RectModel) (reach : ℕ) (all before left rest : List ℕ) (number : ℕ) → rects ≡ rects_of shapes → AreNear rects rect reach all → all ≡ before ++ left → left ≡ number ∷ rest → number < length shapes
+pub next_within : (shapes : List Shape) (rects : List RectModel) (rect : RectModel) (reach : ℕ) (all before left rest : List ℕ) (number : ℕ)
+    → rects ≡ rects_of shapes → AreNear rects rect reach all → all ≡ before ++ left → left ≡ number ∷ rest → number < length shapes
 next_within shapes rects rect reach all before left rest number are near is next =
     let has : Contains all number = rw (is, next) (Contains-append_right before (number ∷ rest) number (Contains-here number rest)) in
     let one : IsNear rects rect reach number = All-contains (IsNear rects rect reach) all number near.each has in

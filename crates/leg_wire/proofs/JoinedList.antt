@@ -50,7 +50,8 @@ module _ (xs : List ℕ) where
       let alone : AllPairs (λ j k. j ≢ k) (q ∷ []) = λ i j d below within. absurd (omega (arith, below, within)) in
       let all : AllPairs (λ j k. j ≢ k) ((q ∷ []) ++ xs) =
       AllPairs-append (λ j k. j ≢ k) (q ∷ []) xs alone once
-      (All-from_contains (λ j. All (λ k. j ≢ k) xs) (q ∷ []) (λ j j_in. All-from_contains (λ k. j ≢ k) xs (λ k k_in same. lacks (rw (← (one j j_in ∙ same)) at k_in)))) in
+      (All-from_contains (λ j. All (λ k. j ≢ k) xs) (q ∷ [])
+      (λ j j_in. All-from_contains (λ k. j ≢ k) xs (λ k k_in same. lacks (rw (← (one j j_in ∙ same)) at k_in)))) in
       let size = length-le_from_distinct_below (q ∷ xs) n (IsDistinct-from_AllPairs (λ a b. (eqb-true a b, eq-eqb a b)) (q ∷ xs) all)
       (λ k there. under k (Contains-from_any eqb-true k (q ∷ xs) there)) in
       omega (arith, size)
@@ -85,8 +86,10 @@ module _ (flat : FlatModel) (net : ℕ) (sets : List ℕ) (lists : List (List �
     λ has.
         let some = some_in k has in
         let at : slice_get sets k ≡ Some 0 = (groups.members.each 0 k some).0 has in
-        let k_in = slice_get_within sets k 0 at in
-        (omega (arith, k_in, joined.count), (joined.each 0 k (omega (arith, some, joined.count))).0 (record { least = 0; of_a = groups.begins some; of_b = at })),
+        let k_in = slice_get_within sets k 0 at in (
+          omega (arith, k_in, joined.count),
+          (joined.each 0 k (omega (arith, some, joined.count))).0 (record { least = 0; of_a = groups.begins some; of_b = at }),
+        ),
     λ is.
         let some : 0 < length sets = omega (arith, is.0, joined.count) in
         let together : AreTogether sets 0 k = (joined.each 0 k (omega (arith, is.0))).1 is.1 in
@@ -95,20 +98,21 @@ module _ (flat : FlatModel) (net : ℕ) (sets : List ℕ) (lists : List (List �
   )
 
   -- the net is open just where they are fewer than its pieces
-  pub open_where_short : (design : DesignModel) → net < length design.nets → (length first < length sets → IsOpenNet design flat net) × (IsOpenNet design flat net → length first < length sets)
+  pub open_where_short : (design : DesignModel) → net < length design.nets
+      → (length first < length sets → IsOpenNet design flat net) × (IsOpenNet design flat net → length first < length sets)
   open_where_short design entry = (
     λ short.
         let found = lacks_one first (length sets) short in
         let k_in : found.0 < piece_count flat net = omega (arith, found.1, joined.count) in
         (found.0, record { net = entry; piece = k_in; open_piece = λ is. found.2 ((first_are found.0).1 (k_in, is)) }),
     λ is.
-        is_short first (length sets) is.0 (groups.members.once 0) (λ k has. let k_in = ((first_are k).0 has).0 in omega (arith, k_in, joined.count)) (let k_in = is.1.piece in omega (arith, k_in, joined.count))
-        (λ has. is.1.open_piece ((first_are is.0).0 has).1),
+        is_short first (length sets) is.0 (groups.members.once 0) (λ k has. let k_in = ((first_are k).0 has).0 in omega (arith, k_in, joined.count))
+        (let k_in = is.1.piece in omega (arith, k_in, joined.count)) (λ has. is.1.open_piece ((first_are is.0).0 has).1),
   )
 
 -- those behind the ones that were given are newly joined
-module _ (flat : FlatModel) (joins : JoinsModel) (sets : List ℕ) (lists : List (List ℕ)) (given : ℕ) (joined : AreJoinedSets flat joins.net sets) (groups : AreGroups sets lists)
-    (given_is : joins.given ≡ take given (get_or lists 0 [])) where
+module _ (flat : FlatModel) (joins : JoinsModel) (sets : List ℕ) (lists : List (List ℕ)) (given : ℕ) (joined : AreJoinedSets flat joins.net sets)
+    (groups : AreGroups sets lists) (given_is : joins.given ≡ take given (get_or lists 0 [])) where
   abbrev all : List ℕ
   all = get_or lists 0 []
 
@@ -127,7 +131,9 @@ module _ (flat : FlatModel) (joins : JoinsModel) (sets : List ℕ) (lists : List
   newly_joined = record {
     are = λ k. (
       λ comes.
-          let is = (first_are flat joins.net sets lists joined groups k).0 (rw (take-append-drop given all) at (Contains-append_right (take given all) (drop given all) k comes)) in
+          let is =
+          (first_are flat joins.net sets lists joined groups k).0
+          (rw (take-append-drop given all) at (Contains-append_right (take given all) (drop given all) k comes)) in
           record { within = is.0; joined = is.1; is_new = λ was. given_apart k (rw given_is at was) comes },
       λ new.
           let has : Contains all k = (first_are flat joins.net sets lists joined groups k).1 (new.within, new.joined) in

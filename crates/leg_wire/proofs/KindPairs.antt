@@ -4,6 +4,7 @@ use Rattle.std.specs.List.{flat_map}
 use Rattle.std.proofs.lemmas.Bool.{cases_lt, cases_eq}
 use Rattle.std.proofs.lemmas.List.Elements.{All-contains, Contains-append_left, Contains-append_right, Contains-append_cases}
 use Rattle.std.proofs.lemmas.Option.{same_Some, slice_get_within, get_or_from_slice_get, slice_get-get_or, none-some}
+use Rattle.leg_lemmas.proofs.Places.{comes_from}
 use Rattle.leg_sweep.specs.Pairs.{Before, ArePairs}
 use Rattle.leg_geom.specs.Pairs.{IsPair}
 use Rattle.leg_sweep.specs.Steps.Sweep.{ordered}
@@ -28,13 +29,6 @@ from_flat_map f (z ∷ xs) y has = elim (Contains-append_cases (f z) (flat_map f
   | inr later ↦ let rest = from_flat_map f xs y later in (rest.0, Contains-there z xs rest.0 rest.1, rest.2)
 ]
 
-from_map : {X Y : Type 0} (f : X → Y) (xs : List X) (y : Y) → Contains (map f xs) y → (x : X) × Contains xs x × (f x ≡ y)
-from_map f [] y has = absurd (Contains-nil y has)
-from_map f (z ∷ xs) y has = elim (Contains-cons_cases (f z) (map f xs) y has) [
-  | inl same ↦ (z, Contains-here z xs, same)
-  | inr later ↦ let rest = from_map f xs y later in (rest.0, Contains-there z xs rest.0 rest.1, rest.2)
-]
-
 -- two numbers, one of each list
 record IsBetween (firsts seconds : List ℕ) (p : ℕ × ℕ) : Type 0 where
   i : ℕ
@@ -46,7 +40,7 @@ record IsBetween (firsts seconds : List ℕ) (p : ℕ × ℕ) : Type 0 where
 between_from : (firsts seconds : List ℕ) (p : ℕ × ℕ) → Contains (pairs_between firsts seconds) p → IsBetween firsts seconds p
 between_from firsts seconds p has =
     let first = from_flat_map (λ i. map (ordered i) seconds) firsts p has in
-    let second = from_map (ordered first.0) seconds p first.2 in
+    let second = comes_from (ordered first.0) seconds p first.2 in
     record { i = first.0; j = second.0; i_in = first.1; j_in = second.1; is = second.2 }
 
 between_has : (firsts seconds : List ℕ) (i j : ℕ) → Contains firsts i → Contains seconds j → Contains (pairs_between firsts seconds) (ordered i j)
@@ -134,7 +128,14 @@ module _ (layers : List Layer) (reach : ℕ) where
             | inr differ ↦
                 let less : j < i = omega (arith, more, differ) in
                 let is : (j, i) ≡ p = sym (ordered-less j i less) ∙ ordered-back j i ∙ between.is in
-                rw (← is) (record { a = t.shape; b = s.shape; a_at = t.at; b_at = s.at; in_order = less; holds = AreClose-symmetric layers reach s.shape t.shape holds })
+                rw (← is) (record {
+                  a = t.shape;
+                  b = s.shape;
+                  a_at = t.at;
+                  b_at = s.at;
+                  in_order = less;
+                  holds = AreClose-symmetric layers reach s.shape t.shape holds;
+                })
           ]
         ]
 
@@ -154,7 +155,8 @@ module _ (layers : List Layer) (reach : ℕ) where
         let first_in = slice_get_within kinds q.0 c.kind c.at in
         let second_in = slice_get_within kinds q.1 d.kind d.at in
         Contains-flat_map (λ q. pairs_between (get_or members q.0 []) (get_or members q.1 [])) close q (ordered i j) has
-        (between_has (get_or members q.0 []) (get_or members q.1 []) i j ((are_members.each q.0 i first_in).1 (kind_in i a a_at)) ((are_members.each q.1 j second_in).1 (kind_in j b b_at)))
+        (between_has (get_or members q.0 []) (get_or members q.1 []) i j ((are_members.each q.0 i first_in).1 (kind_in i a a_at))
+        ((are_members.each q.1 j second_in).1 (kind_in j b b_at)))
       where
         alike_back : (s t : Shape) → AreAlike s t → AreAlike t s
         alike_back s t h = record { layer = sym h.layer; rect = sym h.rect; owner = sym h.owner; component = sym h.component }
@@ -173,7 +175,8 @@ module _ (layers : List Layer) (reach : ℕ) where
                 let one : d.kind ≡ c.kind = same_Some d.kind c.kind (sym d.at ∙ ap (slice_get kinds) (sym same) ∙ c.at) in
                 absurd (one_kind pair.a pair.b c.kind c.alike (rw one at d.alike) pair.holds)
             | inr differ ↦
-                let back = found_by j i pair.b pair.a pair.b_at pair.a_at (AreClose-symmetric layers reach pair.a pair.b pair.holds) (omega (arith, more, differ)) in
+                let back =
+                found_by j i pair.b pair.a pair.b_at pair.a_at (AreClose-symmetric layers reach pair.a pair.b pair.holds) (omega (arith, more, differ)) in
                 rw (ordered-back j i, here) at back
           ]
         ]

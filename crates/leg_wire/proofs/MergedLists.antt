@@ -33,17 +33,20 @@ module _ (first second both : List ℕ) (begins : Type 0) (is_one : IsOneList fi
       λ has. elim has [ inl own ↦ Contains-append_right second first k own | inr other ↦ Contains-append_left second first k other ],
     )
 
-  once_in_both : AllPairs (λ j k. j ≢ k) first → AllPairs (λ j k. j ≢ k) second → ((k : ℕ) → Contains first k → Contains second k → ⊥) → AllPairs (λ j k. j ≢ k) both
+  once_in_both : AllPairs (λ j k. j ≢ k) first → AllPairs (λ j k. j ≢ k) second → ((k : ℕ) → Contains first k → Contains second k → ⊥)
+      → AllPairs (λ j k. j ≢ k) both
   once_in_both own other apart = by is_one where
     by : IsOneList first second begins both → AllPairs (λ j k. j ≢ k) both
     by (behind is) =
         rw is
         (AllPairs-append (λ j k. j ≢ k) first second own other
-        (All-from_contains (λ j. All (λ k. j ≢ k) second) first (λ j j_in. All-from_contains (λ k. j ≢ k) second (λ k k_in same. apart k (rw same at j_in) k_in))))
+        (All-from_contains (λ j. All (λ k. j ≢ k) second) first
+        (λ j j_in. All-from_contains (λ k. j ≢ k) second (λ k k_in same. apart k (rw same at j_in) k_in))))
     by (before may is) =
         rw is
         (AllPairs-append (λ j k. j ≢ k) second first other own
-        (All-from_contains (λ j. All (λ k. j ≢ k) first) second (λ j j_in. All-from_contains (λ k. j ≢ k) first (λ k k_in same. apart k k_in (rw same at j_in)))))
+        (All-from_contains (λ j. All (λ k. j ≢ k) first) second
+        (λ j j_in. All-from_contains (λ k. j ≢ k) first (λ k k_in same. apart k k_in (rw same at j_in)))))
 
 -- the least numbers of two that aren't together are two
 pub roots_apart : (sets : List ℕ) (a b one other : ℕ) → ¬ AreTogether sets a b → slice_get sets a ≡ Some one → slice_get sets b ≡ Some other → one ≢ other
@@ -141,10 +144,11 @@ module _ (sets after : List ℕ) (lists merged : List (List ℕ)) (low high : �
       by (before may is) zero_low = absurd (may zero_low)
 
 -- the lists as they are written, one after the other
-pub merged_as_written : (lists : List (List ℕ)) (low high : ℕ) (empty gone own others both d e : List ℕ) (begins : Type 0) → low < high → high < length lists → empty ≡ []
-    → own ≡ get_or (set lists high empty) low d → others ≡ get_or lists high e → (low ≡ 0 → begins) → (begins → low ≡ 0) → IsOneList own others begins both
+pub merged_as_written : (lists : List (List ℕ)) (low high : ℕ) (empty gone own others both d e : List ℕ) (begins : Type 0)
+    → low < high → high < length lists → empty ≡ []
+    → own ≡ get_or (set lists high empty) low d → others ≡ get_or lists high e → (low ≡ 0 → begins) → IsOneList own others begins both
     → AreListsMerged low high lists (set (set (set lists high empty) low gone) low both)
-merged_as_written lists low high empty gone own others both d e begins order within none own_is others_is into back is_one =
+merged_as_written lists low high empty gone own others both d e begins order within none own_is others_is into is_one =
     let first = set lists high empty in
     let second = set first low gone in
     let first_size : length first ≡ length lists = length-set lists high empty in
@@ -194,7 +198,8 @@ module _ (sets : List ℕ) (lists : List (List ℕ)) (low : All (λ least. least
   stays_at : (k kind : ℕ) → slice_get sets k ≡ Some kind → slice_get sets_then k ≡ Some kind
   stays_at k kind at =
       let k_in = slice_get_within sets k kind at in
-      slice_get_read sets_then _ k kind refl (omega (arith, k_in, many_then)) (sym (get_or_append_left sets (n ∷ []) kind k k_in ∙ get_or_from_slice_get sets k kind kind at))
+      slice_get_read sets_then _ k kind refl (omega (arith, k_in, many_then))
+      (sym (get_or_append_left sets (n ∷ []) kind k k_in ∙ get_or_from_slice_get sets k kind kind at))
 
   here_at : slice_get sets_then n ≡ Some n
   here_at = slice_get_read sets_then _ n n refl (omega (arith, many_then)) (sym (get_or_at sets n [] n n refl))
@@ -203,7 +208,8 @@ module _ (sets : List ℕ) (lists : List (List ℕ)) (low : All (λ least. least
   was_at : (k kind : ℕ) → slice_get sets_then k ≡ Some kind → slice_get sets k ≡ Some kind ⊎ ((k ≡ n) × (kind ≡ n))
   was_at k kind at = elim (cases_lt k n) [
     | inl earlier ↦
-        inl (slice_get_read sets _ k kind refl earlier (sym (sym (get_or_append_left sets (n ∷ []) kind k earlier) ∙ get_or_from_slice_get sets_then k kind kind at)))
+        inl (slice_get_read sets _ k kind refl earlier
+        (sym (sym (get_or_append_left sets (n ∷ []) kind k earlier) ∙ get_or_from_slice_get sets_then k kind kind at)))
     | inr late ↦
         let k_in = slice_get_within sets_then k kind at in
         let here : k ≡ n = omega (arith, late, k_in, many_then) in

@@ -27,7 +27,8 @@ module _ (shapes : List Shape) where
     -- one more shape, which is the net's
     pub below_more : IsOfNet shapes net i → AreBelow net (i + 1) (numbers ++ i ∷ [])
     below_more is = record {
-      increasing = all_pairs_push (λ j k. j < k) numbers i done.increasing (λ k d within. (done.each (get_or numbers k d) (Contains-get_or numbers k d within)).0);
+      increasing =
+          all_pairs_push (λ j k. j < k) numbers i done.increasing (λ k d within. (done.each (get_or numbers k d) (Contains-get_or numbers k d within)).0);
       each = λ k has. elim (Contains-push_cases numbers i k has) [
         | inl before ↦ let old = done.each k before in (omega (arith, old.0), old.1)
         | inr here ↦ rw (← here) (omega arith, is)
@@ -99,7 +100,9 @@ module _ (shapes : List Shape) where
         below_skip net i (get_or lists net []) (done net below) (λ of_net. none net (owner_of net of_net) below)
 
 -- all lists are written back
-pub lists_written : (lists : List (List ℕ)) (place : ℕ) (list : List ℕ) (after : List (List ℕ)) (n : ℕ) → after ≡ set lists place list → n ≡ length lists → take n (after ++ drop (length after) lists) ≡ set lists place list
+pub lists_written : (lists : List (List ℕ)) (place : ℕ) (list : List ℕ) (after : List (List ℕ)) (n : ℕ) → after ≡ set lists place list → n ≡ length lists
+    → take n (after ++ drop (length after) lists) ≡ set lists place list
 lists_written lists place list after n put whole =
     let size : length (set lists place list) ≡ length lists = length-set lists place list in
-    rw (put, drop_all (length (set lists place list)) lists (omega (arith, size)), append-nil (set lists place list)) (take_all n (set lists place list) (omega (arith, whole, size)))
+    rw (put, drop_all (length (set lists place list)) lists (omega (arith, size)), append-nil (set lists place list))
+    (take_all n (set lists place list) (omega (arith, whole, size)))

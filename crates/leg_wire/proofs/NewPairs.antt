@@ -19,7 +19,8 @@ use Rattle.leg_wire.specs.Steps.Joins.{first_rects, TakesNew}
 use Rattle.leg_wire.proofs.SetsTaken.{take_step}
 
 -- one more of the first rectangles
-pub rects_more : (shapes : List PieceShape) (n : ℕ) (shape : PieceShape) → n < length shapes → shape ≡ get_or shapes n shape → first_rects n shapes ++ shape.rect ∷ [] ≡ first_rects (n + 1) shapes
+pub rects_more : (shapes : List PieceShape) (n : ℕ) (shape : PieceShape) → n < length shapes → shape ≡ get_or shapes n shape
+    → first_rects n shapes ++ shape.rect ∷ [] ≡ first_rects (n + 1) shapes
 rects_more shapes n shape within is =
     let next : take (n + 1) shapes ≡ take n shapes ++ shape ∷ [] = take_more shapes n shape within ∙ ap (λ s. take n shapes ++ s ∷ []) (sym is) in
     rw next (sym (map-append (λ (s : PieceShape). s.rect) (take n shapes) (shape ∷ [])))
@@ -31,12 +32,14 @@ rects_stay shapes new n within = ap (map (λ (s : PieceShape). s.rect)) (take-ap
 -- as many as there are shapes
 pub all_rects : (shapes : List PieceShape) → length (first_rects (length shapes) shapes) ≡ length shapes
 all_rects shapes =
-    let many : length (first_rects (length shapes) shapes) ≡ length (take (length shapes) shapes) = length-map (take (length shapes) shapes) (λ (s : PieceShape). s.rect) in
+    let many : length (first_rects (length shapes) shapes) ≡ length (take (length shapes) shapes) =
+    length-map (take (length shapes) shapes) (λ (s : PieceShape). s.rect) in
     let cut = length-take (length shapes) shapes in
     omega (arith, many, cut)
 
 -- a number that is given is that of a near rectangle
-pub near_is : (rects : List RectModel) (rect : RectModel) (reach : ℕ) (all given left rest : List ℕ) (n : ℕ) → AreNear rects rect reach all → all ≡ given ++ left → left ≡ n ∷ rest → IsNear rects rect reach n
+pub near_is : (rects : List RectModel) (rect : RectModel) (reach : ℕ) (all given left rest : List ℕ) (n : ℕ) → AreNear rects rect reach all
+    → all ≡ given ++ left → left ≡ n ∷ rest → IsNear rects rect reach n
 near_is rects rect reach all given left rest n are so_far steps =
     All-contains (IsNear rects rect reach) all n are.each (rw (so_far, steps) (Contains-append_right given (n ∷ rest) n (Contains-here n rest)))
 
@@ -50,13 +53,15 @@ module _ (shapes : List PieceShape) where
       omega (arith, low, many, cut, within)
 
   -- so a number that the index gives is one of a first shape
-  pub near_low : (index : List RectModel) (rect : RectModel) (all given left rest : List ℕ) (n : ℕ) → length index ≤ length shapes → index ≡ first_rects (length index) shapes
-      → AreNear index rect 0 all → all ≡ given ++ left → left ≡ n ∷ rest → n < length index
+  pub near_low : (index : List RectModel) (rect : RectModel) (all given left rest : List ℕ) (n : ℕ) → length index ≤ length shapes
+      → index ≡ first_rects (length index) shapes → AreNear index rect 0 all → all ≡ given ++ left → left ≡ n ∷ rest → n < length index
   near_low index rect all given left rest n within first are so_far steps =
-      near_first (length index) n 0 rect within (subst (λ (rects : List RectModel). IsNear rects rect 0 n) first (near_is index rect 0 all given left rest n are so_far steps))
+      near_first (length index) n 0 rect within
+      (subst (λ (rects : List RectModel). IsNear rects rect 0 n) first (near_is index rect 0 all given left rest n are so_far steps))
 
   -- a first shape that meets another one is near it
-  meets_near : (few j : ℕ) (a b : PieceShape) → j < few → few ≤ length shapes → slice_get shapes j ≡ Some a → DoMeet a b → IsNear (first_rects few shapes) b.rect 0 j
+  meets_near : (few j : ℕ) (a b : PieceShape) → j < few → few ≤ length shapes → slice_get shapes j ≡ Some a → DoMeet a b
+      → IsNear (first_rects few shapes) b.rect 0 j
   meets_near few j a b low within at meet =
       let gaps = DoMeet-near b a (DoMeet-symmetric a b meet) in
       let many : length (first_rects few shapes) ≡ length (take few shapes) = length-map (take few shapes) (λ (s : PieceShape). s.rect) in
@@ -91,7 +96,8 @@ module _ (shapes : List PieceShape) where
     count = refl;
   }
 
-  module _ (k : ℕ) (numbers : List ℕ) (sets between : List ℕ) (seen seen_between : List (Beside × (ℤ × ℤ))) (done : TakesAmong k numbers sets between seen seen_between)
+  module _ (k : ℕ) (numbers : List ℕ) (sets between : List ℕ) (seen seen_between : List (Beside × (ℤ × ℤ)))
+      (done : TakesAmong k numbers sets between seen seen_between)
       (j : ℕ) (a b : PieceShape) (a_is : a ≡ get_or shapes j a) (b_is : b ≡ get_or shapes k b) (low : j < k) (within : k < length shapes) where
     a_at : slice_get shapes j ≡ Some a
     a_at = slice_get_read shapes _ j a refl (omega (arith, low, within)) a_is
@@ -100,8 +106,8 @@ module _ (shapes : List PieceShape) where
     b_at = slice_get_read shapes _ k b refl within b_is
 
     -- one more that meets it
-    pub among_met : DoMeet a b → (after : List ℕ) (seen_after : List (Beside × (ℤ × ℤ))) → IsJoinStep a b between after seen_between seen_after → length after ≡ length between
-        → TakesAmong k (numbers ++ j ∷ []) sets after seen seen_after
+    pub among_met : DoMeet a b → (after : List ℕ) (seen_after : List (Beside × (ℤ × ℤ))) → IsJoinStep a b between after seen_between seen_after
+        → length after ≡ length between → TakesAmong k (numbers ++ j ∷ []) sets after seen seen_after
     among_met meet after seen_after step same =
         let pair : IsPair DoMeet shapes (j, k) = record { a = a; b = b; a_at = a_at; b_at = b_at; in_order = low; holds = meet } in
         record {
@@ -132,8 +138,9 @@ module _ (shapes : List PieceShape) where
     }
 
   -- all near ones were taken
-  pub near_taken : (few k : ℕ) (numbers sets after : List ℕ) (seen seen_after : List (Beside × (ℤ × ℤ))) (b : PieceShape) → few ≤ length shapes → k < length shapes → b ≡ get_or shapes k b
-      → AreNear (first_rects few shapes) b.rect 0 numbers → TakesAmong k numbers sets after seen seen_after → TakesNew shapes few k (k + 1) sets after seen seen_after
+  pub near_taken : (few k : ℕ) (numbers sets after : List ℕ) (seen seen_after : List (Beside × (ℤ × ℤ))) (b : PieceShape) → few ≤ length shapes
+      → k < length shapes → b ≡ get_or shapes k b → AreNear (first_rects few shapes) b.rect 0 numbers → TakesAmong k numbers sets after seen seen_after
+      → TakesNew shapes few k (k + 1) sets after seen seen_after
   near_taken few k numbers sets after seen seen_after b few_in k_in b_is near done = record {
     found = done.found;
     each = done.each;
@@ -155,11 +162,14 @@ module _ (shapes : List PieceShape) where
     taken = none;
   }
 
-  takes_both : (before between after : JoinState) (f g : List (ℕ × ℕ)) → TakesAll TakesPair before f between → TakesAll TakesPair between g after → TakesAll TakesPair before (f ++ g) after
+  takes_both : (before between after : JoinState) (f g : List (ℕ × ℕ)) → TakesAll TakesPair before f between → TakesAll TakesPair between g after
+      → TakesAll TakesPair before (f ++ g) after
   takes_both before between after f g first none = rw (append-nil f) first
-  takes_both before between after f g first (more {found = h} {between = c} {p = p} rest last) = rw (← append_assoc f h (p ∷ [])) (more (takes_both before between c f h first rest) last)
+  takes_both before between after f g first (more {found = h} {between = c} {p = p} rest last) =
+      rw (← append_assoc f h (p ∷ [])) (more (takes_both before between c f h first rest) last)
 
-  pub new_more : (few first mid : ℕ) (sets between after : List ℕ) (seen seen_between seen_after : List (Beside × (ℤ × ℤ))) → TakesNew shapes few first mid sets between seen seen_between
+  pub new_more : (few first mid : ℕ) (sets between after : List ℕ) (seen seen_between seen_after : List (Beside × (ℤ × ℤ)))
+      → TakesNew shapes few first mid sets between seen seen_between
       → TakesNew shapes few mid (mid + 1) between after seen_between seen_after → TakesNew shapes few first (mid + 1) sets after seen seen_after
   new_more few first mid sets between after seen seen_between seen_after done next = record {
     found = done.found ++ next.found;

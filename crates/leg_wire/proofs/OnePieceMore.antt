@@ -30,14 +30,18 @@ use Rattle.leg_wire.proofs.PieceOrder.{in_order_more}
 pub of_piece : (piece : ℕ) (shapes : List Shape) → All (λ (shape : PieceShape). shape.piece ≡ piece) (metal_of_piece piece shapes)
 of_piece piece [] = All-nil (λ (shape : PieceShape). shape.piece ≡ piece)
 of_piece piece (shape ∷ shapes) =
-    All-cons (λ (shape : PieceShape). shape.piece ≡ piece) (record { piece = piece; layer = shape.layer; rect = shape.rect }) (metal_of_piece piece shapes) refl (of_piece piece shapes)
+    All-cons (λ (shape : PieceShape). shape.piece ≡ piece) (record { piece = piece; layer = shape.layer; rect = shape.rect }) (metal_of_piece piece shapes) refl
+    (of_piece piece shapes)
 
 -- each piece whose metal is there has a number still, and so has the new one
-pub places_more : (metal new : List PieceShape) (sets grown : List ℕ) → HavePlaces sets metal → All (λ shape. shape.piece ≡ length sets) new → HasOneNumberMore sets grown → HavePlaces grown (metal ++ new)
+pub places_more : (metal new : List PieceShape) (sets grown : List ℕ) → HavePlaces sets metal → All (λ shape. shape.piece ≡ length sets) new
+    → HasOneNumberMore sets grown → HavePlaces grown (metal ++ new)
 places_more metal new sets grown places new_is more =
     All-append (λ (shape : PieceShape). shape.piece < length grown) metal new
-    (All-weaker (λ (shape : PieceShape). shape.piece < length sets) (λ (shape : PieceShape). shape.piece < length grown) (λ shape low. omega (arith, low, more.count)) metal places)
-    (All-weaker (λ (shape : PieceShape). shape.piece ≡ length sets) (λ (shape : PieceShape). shape.piece < length grown) (λ shape is. omega (arith, is, more.count)) new new_is)
+    (All-weaker (λ (shape : PieceShape). shape.piece < length sets) (λ (shape : PieceShape). shape.piece < length grown)
+    (λ shape low. omega (arith, low, more.count)) metal places)
+    (All-weaker (λ (shape : PieceShape). shape.piece ≡ length sets) (λ (shape : PieceShape). shape.piece < length grown)
+    (λ shape is. omega (arith, is, more.count)) new new_is)
 
 -- the metal of the pieces before, and that of the new one, which has the next number
 module _ (metal new : List PieceShape) (sets grown : List ℕ) (are : AreSetsOf metal (length sets) sets) (places : HavePlaces sets metal)
@@ -114,8 +118,10 @@ module _ (metal new : List PieceShape) (sets grown : List ℕ) (are : AreSetsOf 
     pair_done s t s_in t_in meet =
         let k = length metal + t_in.0 in
         let many : length all ≡ length metal + length new = length-append metal new in
-        let s_at : slice_get all s_in.0 ≡ Some s = slice_get_read all _ s_in.0 s refl (omega (arith, many, s_in.1)) (sym (get_or_append_left metal new s s_in.0 s_in.1 ∙ s_in.2)) in
-        let t_at : slice_get all k ≡ Some t = slice_get_read all _ k t refl (omega (arith, many, t_in.1)) (sym (get_or-append-add metal new t_in.0 t ∙ t_in.2)) in
+        let s_at : slice_get all s_in.0 ≡ Some s =
+        slice_get_read all _ s_in.0 s refl (omega (arith, many, s_in.1)) (sym (get_or_append_left metal new s s_in.0 s_in.1 ∙ s_in.2)) in
+        let t_at : slice_get all k ≡ Some t =
+        slice_get_read all _ k t refl (omega (arith, many, t_in.1)) (sym (get_or-append-add metal new t_in.0 t ∙ t_in.2)) in
         let pair : IsPair DoMeet all (s_in.0, k) = record { a = s; b = t; a_at = s_at; b_at = t_at; in_order = omega (arith, s_in.1); holds = meet } in
         so_far.done (s_in.0, k) s t (joins.takes.all s_in.0 k s_in.1 (omega arith) (omega (arith, many, t_in.1)) pair) s_at t_at
 
@@ -150,25 +156,34 @@ module _ (metal new : List PieceShape) (sets grown : List ℕ) (are : AreSetsOf 
       all = joined_all;
     }
 
--- what is kept is right with the new piece, whose shapes these are
-pub kept_more : (metal : List PieceShape) (shapes : List Shape) (index before : List RectModel) (sets grown sets_after : List ℕ) (lists lists_after : List (List ℕ)) (given : ℕ)
+-- the sets and their lists once the metal of a new piece, whose shapes these are, is joined to what it touches
+pub record IsNewPieceJoined (metal : List PieceShape) (shapes : List Shape) (index : List RectModel) (sets grown sets_after : List ℕ)
+    (lists lists_after : List (List ℕ)) : Type 0 where
+  pub joins : JoinsNew (metal ++ metal_of_piece (length sets) shapes) (length index) grown sets_after
+  pub count : length sets_after ≡ length grown
+  pub groups : AreGroups sets_after lists_after
+  pub longer : HasGrown (get_or lists 0 []) (get_or lists_after 0 [])
+
+-- what is kept is right with the new piece
+pub kept_more : (metal : List PieceShape) (shapes : List Shape) (index before : List RectModel) (sets grown sets_after : List ℕ)
+    (lists lists_after : List (List ℕ)) (given : ℕ)
     → IsKeptSet metal before sets lists given → index ≡ first_rects (length metal) metal → HasOneNumberMore sets grown
-    → JoinsNew (metal ++ metal_of_piece (length sets) shapes) (length index) grown sets_after → length sets_after ≡ length grown
-    → AreGroups sets_after lists_after → HasGrown (get_or lists 0 []) (get_or lists_after 0 [])
+    → IsNewPieceJoined metal shapes index sets grown sets_after lists lists_after
     → IsKeptSet (metal ++ metal_of_piece (length sets) shapes) index sets_after lists_after given
-kept_more metal shapes index before sets grown sets_after lists lists_after given kept index_is more joins same groups longer =
+kept_more metal shapes index before sets grown sets_after lists lists_after given kept index_is more joined =
     let new = metal_of_piece (length sets) shapes in
     let new_is = of_piece (length sets) shapes in
     let count : length index ≡ length metal = ap length index_is ∙ all_rects metal in
     let places_then : HavePlaces grown (metal ++ new) = places_more metal new sets grown kept.places new_is more in
     let all = length-append metal new in
-    let size : length (get_or lists_after 0 []) ≡ length (get_or lists 0 []) + length longer.more = ap length longer.is ∙ length-append (get_or lists 0 []) longer.more in
+    let size : length (get_or lists_after 0 []) ≡ length (get_or lists 0 []) + length joined.longer.more =
+    ap length joined.longer.is ∙ length-append (get_or lists 0 []) joined.longer.more in
     record {
-      sets_are = sets_with_new metal new sets grown kept.sets_are kept.places new_is more sets_after (rw count at joins) same;
-      places = rw same places_then;
+      sets_are = sets_with_new metal new sets grown kept.sets_are kept.places new_is more sets_after (rw count at joined.joins) joined.count;
+      places = rw joined.count places_then;
       within = omega (arith, count, all);
       first = rw count (index_is ∙ sym (rects_stay metal new (length metal) (omega arith)));
       in_order = in_order_more metal new (length sets) kept.in_order kept.places new_is;
-      listed = groups;
+      listed = joined.groups;
       few = omega (arith, kept.few, size);
     }

@@ -1,12 +1,13 @@
 -- The pieces that aren't joined, listed net by net.
-use Rattle.std.proofs.Common.{◌≡◌, ℕ, zero, suc, ◌+◌, ◌<◌, ◌≤◌, Bool, true, false, List, [], ◌∷◌, ◌++◌, length, map, get_or, Some, slice_get, ◌⊎◌, inl, inr, refl, sym, ap, ◌∙◌, arith}
+use Rattle.std.proofs.Common.{◌≡◌, ℕ, ◌+◌, ◌<◌, ◌≤◌, Bool, true, false, List, [], ◌∷◌, ◌++◌, length, map, get_or, Some, slice_get, ◌⊎◌, inl, inr, refl, sym, ap, ◌∙◌, arith}
 use Rattle.std.specs.List.{range_with_len}
 use Rattle.std.proofs.lemmas.Bool.{false≢true, cases_lt, cases_Bool}
 use Rattle.std.proofs.lemmas.List.{append_assoc, append-nil}
 use Rattle.std.proofs.lemmas.List.Elements.{All-nil, All-push, All-append, All-weaker, Contains-append_left, Contains-append_right, Contains-push}
 use Rattle.std.proofs.lemmas.List.FromFn.{length-map-range_with_len}
 use Rattle.std.proofs.lemmas.List.Quantifiers.{all_pairs_push}
-use Rattle.std.proofs.lemmas.Option.{slice_get_within, slice_get-get_or, same_Some, none-some}
+use Rattle.std.proofs.lemmas.Option.{slice_get_within, slice_get-get_or, none-some}
+use Rattle.leg_lemmas.proofs.Places.{get_first, get_last, last_or_before}
 use Rattle.leg_sweep.proofs.Lists.{AllPairs-nil, AllPairs-append_by}
 use Rattle.leg_design_records.specs.Records.{DesignModel}
 use Rattle.leg_design_records.specs.declared.fault.Fault.{Fault}
@@ -22,35 +23,16 @@ use Rattle.leg_wire.specs.Steps.OpenViolations.{NamesOnlyUnmarked}
 use Rattle.leg_wire.specs.Steps.OpenViolations.NamesOnlyUnmarked.{unmarked}
 use Rattle.leg_wire.specs.Steps.AddedFaults.{AreAdded}
 
--- what stands at a place of a list stands there once more follows
-get_earlier : (marks : List Bool) (last : Bool) (k : ℕ) (mark : Bool) → slice_get marks k ≡ Some mark → slice_get (marks ++ last ∷ []) k ≡ Some mark
-get_earlier [] last k mark at = absurd (none-some mark at)
-get_earlier (m ∷ marks) last zero mark at = at
-get_earlier (m ∷ marks) last (suc k) mark at = get_earlier marks last k mark at
-
-get_last : (marks : List Bool) (last : Bool) → slice_get (marks ++ last ∷ []) (length marks) ≡ Some last
-get_last [] last = refl
-get_last (m ∷ marks) last = get_last marks last
-
-get_cases : (marks : List Bool) (last : Bool) (k : ℕ) (mark : Bool) → slice_get (marks ++ last ∷ []) k ≡ Some mark → (slice_get marks k ≡ Some mark) ⊎ ((k ≡ length marks) × (last ≡ mark))
-get_cases [] last zero mark at = inr (refl, same_Some last mark at)
-get_cases [] last (suc k) mark at = absurd (none-some mark at)
-get_cases (m ∷ marks) last zero mark at = inl at
-get_cases (m ∷ marks) last (suc k) mark at =
-    elim (get_cases marks last k mark at) [
-      | inl earlier ↦ inl earlier
-      | inr here ↦ inr (ap suc here.0, here.1)
-    ]
-
 module _ (net : ℕ) where
   tells_earlier : (marks : List Bool) (last : Bool) (v : Fault) → NamesOnlyUnmarked net marks v → NamesOnlyUnmarked net (marks ++ last ∷ []) v
-  tells_earlier marks last v (unmarked {k = k} at) = unmarked (get_earlier marks last k false at)
+  tells_earlier marks last v (unmarked {k = k} at) = unmarked (get_first marks (last ∷ []) k false at)
 
-  tells_cases : (marks : List Bool) (last : Bool) (v : Fault) → NamesOnlyUnmarked net (marks ++ last ∷ []) v → NamesOnlyUnmarked net marks v ⊎ ((v ≡ OpenNet net (length marks)) × (last ≡ false))
+  tells_cases : (marks : List Bool) (last : Bool) (v : Fault) → NamesOnlyUnmarked net (marks ++ last ∷ []) v
+      → NamesOnlyUnmarked net marks v ⊎ ((v ≡ OpenNet net (length marks)) × (last ≡ false))
   tells_cases marks last v (unmarked {k = k} at) =
-      elim (get_cases marks last k false at) [
+      elim (last_or_before marks last k false at) [
         | inl earlier ↦ inl (unmarked earlier)
-        | inr here ↦ inr (rw here.0 refl, here.1)
+        | inr here ↦ inr (rw here.0 refl, sym here.1)
       ]
 
   -- the pieces without a mark come before the next piece
@@ -123,7 +105,8 @@ module _ (design : DesignModel) (flat : FlatModel) where
   below_nets v (open_net h) = h.net
 
   -- all nets were looked at
-  pub open_end : (end : ℕ) (found : List Fault) → end ≡ length design.nets → IsListOf (HoldsBelow design flat end) found → IsListOf (IsOpenViolation design flat) found
+  pub open_end : (end : ℕ) (found : List Fault) → end ≡ length design.nets → IsListOf (HoldsBelow design flat end) found
+      → IsListOf (IsOpenViolation design flat) found
   open_end end found last done = record {
     increasing = done.increasing;
     each = All-weaker (HoldsBelow design flat end) (IsOpenViolation design flat) (λ v held. held.holds) found done.each;
@@ -170,14 +153,16 @@ module _ (design : DesignModel) (flat : FlatModel) where
           record { kind = omega arith; first = λ _. omega (arith, below); second = λ _ same. absurd (omega (arith, below, same)) }
 
     -- the pieces of one more net
-    pub open_more : (before after : List Fault) → IsListOf (HoldsBelow design flat net) before → AreAdded (NamesOnlyUnmarked net marks) before after → IsListOf (HoldsBelow design flat (net + 1)) after
+    pub open_more : (before after : List Fault) → IsListOf (HoldsBelow design flat net) before → AreAdded (NamesOnlyUnmarked net marks) before after
+        → IsListOf (HoldsBelow design flat (net + 1)) after
     open_more before after done added = rw added.is (record {
       increasing =
           AllPairs-append_by ComesBefore (HoldsBelow design flat net) (NamesOnlyUnmarked net marks) below_comes_before before added.more
           done.each added.list.each done.increasing added.list.increasing;
       each =
           All-append (HoldsBelow design flat (net + 1)) before added.more
-          (All-weaker (HoldsBelow design flat net) (HoldsBelow design flat (net + 1)) (λ v held. record { holds = held.holds; below = omega (arith, held.below) }) before done.each)
+          (All-weaker (HoldsBelow design flat net) (HoldsBelow design flat (net + 1))
+          (λ v held. record { holds = held.holds; below = omega (arith, held.below) }) before done.each)
           (All-weaker (NamesOnlyUnmarked net marks) (HoldsBelow design flat (net + 1)) below_from_unmarked added.more added.list.each);
       all = λ v held. elim (below_cases v held) [
         | inl earlier ↦ Contains-append_left before added.more v (done.all v earlier)

@@ -15,7 +15,8 @@ use Rattle.leg_wire.specs.Steps.AddedFaults.{AreAdded}
 
 module _ (Told Next : Fault → Type 0) (into : (w : Fault) → Told w → Next w) where
   -- one more violation, which comes behind the others
-  listing_push : (v : Fault) (found : List Fault) → Next v → ((w : Fault) → Told w → ComesBefore w v) → ((w : Fault) → Next w → Told w ⊎ (v ≡ w)) → IsListOf Told found → IsListOf Next (found ++ v ∷ [])
+  listing_push : (v : Fault) (found : List Fault) → Next v → ((w : Fault) → Told w → ComesBefore w v) → ((w : Fault) → Next w → Told w ⊎ (v ≡ w))
+      → IsListOf Told found → IsListOf Next (found ++ v ∷ [])
   listing_push v found this later back done = record {
     increasing = all_pairs_push ComesBefore found v done.increasing (All-weaker Told (λ w. ComesBefore w v) later found done.each);
     each = All-push Next found v (All-weaker Told Next into found done.each) this;
@@ -39,7 +40,8 @@ keeps Short p q before = record { kind = omega arith; first = λ _. before.first
 keeps TooNear p q before = record { kind = omega arith; first = λ _. before.first; second = λ _ same. before.second same }
 
 -- pairs of shapes in increasing order, told as violations of a kind
-module _ (kind : PairKind) (shapes : List Shape) (close : List (ℕ × ℕ)) (increasing : AllPairs Before close) (k : ℕ) (within : k < length close) (a b : Shape) (a_at : slice_get shapes (get_or close k (0, 0)).0 ≡ Some a) (b_at : slice_get shapes (get_or close k (0, 0)).1 ≡ Some b) where
+module _ (kind : PairKind) (shapes : List Shape) (close : List (ℕ × ℕ)) (increasing : AllPairs Before close) (k : ℕ) (within : k < length close) (a b : Shape)
+    (a_at : slice_get shapes (get_or close k (0, 0)).0 ≡ Some a) (b_at : slice_get shapes (get_or close k (0, 0)).1 ≡ Some b) where
   abbrev told_here : ℕ × ℕ
   told_here = get_or close k (0, 0)
 
@@ -65,7 +67,8 @@ module _ (kind : PairKind) (shapes : List Shape) (close : List (ℕ × ℕ)) (in
   }
 
   -- this pair passes the test
-  pub told_more : (before after : List Fault) → IsOfKind kind a b → AreAdded (IsPairViolationOf kind shapes (take k close)) before after → AreAdded (IsPairViolationOf kind shapes (take (k + 1) close)) before (after ++ fault_of kind told_here.0 told_here.1 ∷ [])
+  pub told_more : (before after : List Fault) → IsOfKind kind a b → AreAdded (IsPairViolationOf kind shapes (take k close)) before after
+      → AreAdded (IsPairViolationOf kind shapes (take (k + 1) close)) before (after ++ fault_of kind told_here.0 told_here.1 ∷ [])
   told_more before after passes done =
       let this : IsPairViolationOf kind shapes (take (k + 1) close) (fault_of kind told_here.0 told_here.1) = record {
         p = told_here;
@@ -85,14 +88,24 @@ module _ (kind : PairKind) (shapes : List Shape) (close : List (ℕ × ℕ)) (in
             (fault_of kind told_here.0 told_here.1) done.more this
             (λ w told. rw told.is (keeps kind told.p told_here (All-contains (λ q. Before q told_here) (take k close) told.p all_before told.among)))
             (λ w told. elim (Contains-push_cases (take k close) told_here told.p (rw grown at told.among)) [
-              | inl earlier ↦ inl (record { p = told.p; is = told.is; among = earlier; a = told.a; b = told.b; a_at = told.a_at; b_at = told.b_at; test = told.test })
+              | inl earlier ↦ inl (record {
+                p = told.p;
+                is = told.is;
+                among = earlier;
+                a = told.a;
+                b = told.b;
+                a_at = told.a_at;
+                b_at = told.b_at;
+                test = told.test;
+              })
               | inr same ↦ inr (rw same (sym told.is))
             ])
             done.list;
       }
 
   -- it doesn't
-  pub told_skip : (before after : List Fault) → (IsOfKind kind a b → ⊥) → AreAdded (IsPairViolationOf kind shapes (take k close)) before after → AreAdded (IsPairViolationOf kind shapes (take (k + 1) close)) before after
+  pub told_skip : (before after : List Fault) → (IsOfKind kind a b → ⊥) → AreAdded (IsPairViolationOf kind shapes (take k close)) before after
+      → AreAdded (IsPairViolationOf kind shapes (take (k + 1) close)) before after
   told_skip before after fails done = record {
     more = done.more;
     is = done.is;

@@ -40,11 +40,13 @@ rises xs ys sorted kept i j d before within =
     let long : j < length (dedup pair_eq xs) = rw (← is) within in
     less_is _ _ (rw is (Less-from_sorted pair_cmp (dedup pair_eq xs) i j d strictly before long))
 
-pub keeps : (xs sorted ys : List (ℕ × ℕ)) → IsPermutation xs sorted → IsFiltered (DiffersFromLast pair_eq) [] sorted ys → (p : ℕ × ℕ) → Contains xs p → Contains ys p
+pub keeps : (xs sorted ys : List (ℕ × ℕ)) → IsPermutation xs sorted → IsFiltered (DiffersFromLast pair_eq) [] sorted ys → (p : ℕ × ℕ) → Contains xs p
+    → Contains ys p
 keeps xs sorted ys moved kept p there =
     rw (dedup_is pair_eq sorted ys kept) (Contains-dedup pair_equivalence pair_same sorted p (Contains-permutation xs sorted p moved there))
 
-pub came_from : (xs sorted ys : List (ℕ × ℕ)) → IsPermutation xs sorted → IsFiltered (DiffersFromLast pair_eq) [] sorted ys → (p : ℕ × ℕ) → Contains ys p → Contains xs p
+pub came_from : (xs sorted ys : List (ℕ × ℕ)) → IsPermutation xs sorted → IsFiltered (DiffersFromLast pair_eq) [] sorted ys → (p : ℕ × ℕ) → Contains ys p
+    → Contains xs p
 came_from xs sorted ys moved kept p there =
     let there' : Contains (dedup pair_eq sorted) p = rw (← (dedup_is pair_eq sorted ys kept)) there in
     Contains-permutation sorted xs p (IsPermutation-sym xs sorted moved) (Contains-from_dedup pair_eq sorted p there')

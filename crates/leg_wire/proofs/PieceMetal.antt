@@ -23,7 +23,8 @@ module _ (flat : FlatModel) (net : ℕ) where
   -- the metal of pieces that the shapes of these numbers are, of which each is one where the lists are equally long
   pub record AreAmong (numbers : List ℕ) (pieces : List PieceShape) : Type 0 where
     pub each : (piece : PieceShape) → Contains pieces piece → (shape : Shape) × Contains flat.shapes shape × IsPieceShape flat net shape piece
-    pub all : (k : ℕ) (shape : Shape) (piece : PieceShape) → Contains numbers k → slice_get flat.shapes k ≡ Some shape → IsPieceShape flat net shape piece → Contains pieces piece
+    pub all : (k : ℕ) (shape : Shape) (piece : PieceShape) → Contains numbers k → slice_get flat.shapes k ≡ Some shape → IsPieceShape flat net shape piece
+        → Contains pieces piece
     pub few : length pieces ≤ length numbers
     pub whole : length pieces ≡ length numbers → All HasPiece numbers
 
@@ -45,8 +46,10 @@ module _ (flat : FlatModel) (net : ℕ) where
     }
 
   -- one more number, of this shape of the net, and what is found of it
-  module _ (numbers : List ℕ) (pieces : List PieceShape) (done : AreAmong numbers pieces) (k : ℕ) (shape : Shape) (at : slice_get flat.shapes k ≡ Some shape) (of_net : IsOfNet flat.shapes net k)
-      (count : ℕ) (counted : piece_count flat net ≡ count) (found : Option PieceShape) (told : (p : PieceShape) → found ≡ Some p ↔ SaysShape count shape p) where
+  module _ (numbers : List ℕ) (pieces : List PieceShape) (done : AreAmong numbers pieces) (k : ℕ) (shape : Shape) (at : slice_get flat.shapes k ≡ Some shape)
+      (of_net : IsOfNet flat.shapes net k)
+      (count : ℕ) (counted : piece_count flat net ≡ count) (found : Option PieceShape)
+      (told : (p : PieceShape) → found ≡ Some p ↔ SaysShape count shape p) where
     owned : shape.owner ≡ Net net
     owned = ap (λ (s : Shape). s.owner) (same_Some shape of_net.shape (sym at ∙ of_net.at)) ∙ of_net.owner
 
@@ -89,7 +92,8 @@ module _ (flat : FlatModel) (net : ℕ) where
     }
 
   -- the metal that all shapes of the net are
-  pub ArePieceShapes-among : (numbers : List ℕ) (pieces : List PieceShape) → AreNumbersOf flat.shapes net numbers → AreAmong numbers pieces → ArePieceShapes flat net pieces
+  pub ArePieceShapes-among : (numbers : List ℕ) (pieces : List PieceShape) → AreNumbersOf flat.shapes net numbers → AreAmong numbers pieces
+      → ArePieceShapes flat net pieces
   ArePieceShapes-among numbers pieces are done = record {
     each = done.each;
     all = λ shape piece has is.
@@ -98,7 +102,8 @@ module _ (flat : FlatModel) (net : ℕ) where
   }
 
   -- each shape of the net is metal of one of its pieces, where no number was passed over
-  pub whole_net : (numbers : List ℕ) (pieces : List PieceShape) → AreNumbersOf flat.shapes net numbers → AreAmong numbers pieces → length pieces ≡ length numbers → IsWholeNet flat net
+  pub whole_net : (numbers : List ℕ) (pieces : List PieceShape) → AreNumbersOf flat.shapes net numbers → AreAmong numbers pieces
+      → length pieces ≡ length numbers → IsWholeNet flat net
   whole_net numbers pieces are done same shape piece has owner of_piece =
       let at : slice_get flat.shapes has.0 ≡ Some shape = slice_get_read flat.shapes _ has.0 shape refl has.1 (sym has.2) in
       let one : HasPiece has.0 = All-contains HasPiece numbers has.0 (done.whole same) (are.all has.0 (record { shape = shape; at = at; owner = owner })) in

@@ -10,7 +10,8 @@ use Rattle.leg_wire.specs.declared.piece_shape.PieceShape.{PieceShape}
 use Rattle.leg_wire.specs.Joins.{ArePieceShapes}
 
 -- in another order it is the same metal
-pub pieces_in_order : (flat : FlatModel) (net : ℕ) (metal sorted : List PieceShape) → IsPermutation metal sorted → ArePieceShapes flat net metal → ArePieceShapes flat net sorted
+pub pieces_in_order : (flat : FlatModel) (net : ℕ) (metal sorted : List PieceShape) → IsPermutation metal sorted → ArePieceShapes flat net metal
+    → ArePieceShapes flat net sorted
 pieces_in_order flat net metal sorted moved are = record {
   each = λ piece has. are.each piece (Contains-permutation sorted metal piece (IsPermutation-sym metal sorted moved) has);
   all = λ shape piece has is. Contains-permutation metal sorted piece moved (are.all shape piece has is);
@@ -79,7 +80,8 @@ module _ (metal : List PieceShape) (piece first end : ℕ)
   )
 
 -- behind the metal of lower pieces stands that of a higher one
-pub in_order_more : (metal new : List PieceShape) (piece : ℕ) → IsNonDecreasingBy (λ (shape : PieceShape). shape.piece) metal → All (λ (shape : PieceShape). shape.piece < piece) metal
+pub in_order_more : (metal new : List PieceShape) (piece : ℕ) → IsNonDecreasingBy (λ (shape : PieceShape). shape.piece) metal
+    → All (λ (shape : PieceShape). shape.piece < piece) metal
     → All (λ (shape : PieceShape). shape.piece ≡ piece) new → IsNonDecreasingBy (λ (shape : PieceShape). shape.piece) (metal ++ new)
 in_order_more metal new piece in_order low is i j d upto within = elim (cases_lt j (length metal)) [
   | inl early ↦

@@ -89,7 +89,8 @@ module _ (shapes : List PieceShape) where
         ]
 
     -- and back
-    both_lie_in : (point : ℤ × ℤ) → LiesInBoth (pieces_beside s t) point → LiesAmong shapes s.piece s.layer (spot_of point) × LiesAmong shapes t.piece s.layer (spot_of point)
+    both_lie_in : (point : ℤ × ℤ) → LiesInBoth (pieces_beside s t) point
+        → LiesAmong shapes s.piece s.layer (spot_of point) × LiesAmong shapes t.piece s.layer (spot_of point)
     both_lie_in point both =
         elim (cases_lt s.piece t.piece) [
           | inl lower ↦
@@ -117,7 +118,8 @@ module _ (shapes : List PieceShape) where
     }
 
     -- a point of both rectangles that isn't the first one that was seen
-    pub touch_by_other : (point : ℤ × ℤ) → LiesInBoth (pieces_beside s t) point → (IsShared s.rect t.rect (spot_of point) → ⊥) → TouchAmong shapes s.piece t.piece
+    pub touch_by_other : (point : ℤ × ℤ) → LiesInBoth (pieces_beside s t) point → (IsShared s.rect t.rect (spot_of point) → ⊥)
+        → TouchAmong shapes s.piece t.piece
     touch_by_other point both other =
         let first = both_lie_in point both in
         let here : IsShared s.rect t.rect meet.shared.point = record { in_a = meet.shared.in_a; in_b = meet.shared.in_b } in
@@ -220,7 +222,8 @@ module _ (shapes : List PieceShape) (count : ℕ) where
         → ((a b : ℕ) → AreTogether sets a b → AreTogether sets_after a b)
         → ((pieces : Beside) (point : ℤ × ℤ) → first_seen before pieces ≡ Some point → first_seen after pieces ≡ Some point)
         → IsDone sets_after after s t
-        → (p : ℕ × ℕ) (u v : PieceShape) → Contains (meetings ++ m ∷ []) p → slice_get shapes p.0 ≡ Some u → slice_get shapes p.1 ≡ Some v → IsDone sets_after after u v
+        → (p : ℕ × ℕ) (u v : PieceShape) → Contains (meetings ++ m ∷ []) p → slice_get shapes p.0 ≡ Some u → slice_get shapes p.1 ≡ Some v
+        → IsDone sets_after after u v
     done_or_this sets_after after stay kept this p u v has u_at v_at = elim (Contains-push_cases meetings m p has) [
       | inl earlier ↦ λ q shared. elim (done.done p u v earlier u_at v_at q shared) [
         | inl together ↦ inl (stay u.piece v.piece together)
@@ -273,7 +276,8 @@ module _ (shapes : List PieceShape) (count : ℕ) where
 
     -- two rectangles that meet are taken
     module _ (s_in : Contains shapes s) (t_in : Contains shapes t) (meet : DoMeet s t) where
-      so_far_step : (sets_after : List ℕ) (after : List (Beside × (ℤ × ℤ))) → IsJoinStep s t sets sets_after before after → AreSoFar shapes count (meetings ++ m ∷ []) sets_after after
+      so_far_step : (sets_after : List ℕ) (after : List (Beside × (ℤ × ℤ))) → IsJoinStep s t sets sets_after before after
+          → AreSoFar shapes count (meetings ++ m ∷ []) sets_after after
       so_far_step sets_after after (were_together together same seen_same) =
           rw (same, seen_same) (so_far_same before (λ pieces point is. is) done.points (λ p shared. inl together))
       so_far_step sets_after after (are_united told united) =
@@ -300,10 +304,12 @@ module _ (shapes : List PieceShape) (count : ℕ) where
       contained place shape at = (place, slice_get_within shapes place shape at, get_or_from_slice_get shapes place shape shape at)
 
   -- all meetings were taken
-  module _ (meetings : List (ℕ × ℕ)) (are : HasPairs DoMeet shapes meetings) (sets : List ℕ) (seen : List (Beside × (ℤ × ℤ))) (done : AreSoFar shapes count meetings sets seen) where
+  module _ (meetings : List (ℕ × ℕ)) (are : HasPairs DoMeet shapes meetings) (sets : List ℕ) (seen : List (Beside × (ℤ × ℤ)))
+      (done : AreSoFar shapes count meetings sets seen) where
     -- rectangles that meet are done, here the one of the lower number first
     done_at : (i j : ℕ) (s t : PieceShape) → slice_get shapes i ≡ Some s → slice_get shapes j ≡ Some t → i < j → DoMeet s t → IsDone sets seen s t
-    done_at i j s t s_at t_at order meet = done.done (i, j) s t (are.all (i, j) (record { a = s; b = t; a_at = s_at; b_at = t_at; in_order = order; holds = meet })) s_at t_at
+    done_at i j s t s_at t_at order meet =
+        done.done (i, j) s t (are.all (i, j) (record { a = s; b = t; a_at = s_at; b_at = t_at; in_order = order; holds = meet })) s_at t_at
 
     -- or in any order
     all_done : (s t : PieceShape) → Contains shapes s → Contains shapes t → DoMeet s t → IsDone sets seen s t
@@ -316,7 +322,8 @@ module _ (shapes : List PieceShape) (count : ℕ) where
             | inl same ↦
                 let alike : s ≡ t = same_Some s t (sym s_at ∙ ap (slice_get shapes) same ∙ t_at) in
                 absurd (meet.others (ap (λ (u : PieceShape). u.piece) alike))
-            | inr differ ↦ IsDone-back sets seen t s (sym meet.layer) (done_at t_in.0 s_in.0 t s t_at s_at (omega (arith, later, differ)) (DoMeet-symmetric s t meet))
+            | inr differ ↦ IsDone-back sets seen t s (sym meet.layer)
+                (done_at t_in.0 s_in.0 t s t_at s_at (omega (arith, later, differ)) (DoMeet-symmetric s t meet))
           ]
         ]
 

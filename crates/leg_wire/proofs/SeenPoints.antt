@@ -1,11 +1,11 @@
 -- The table of the points that were seen first.
-use Rattle.std.proofs.Common.{◌≡◌, ℕ, ℤ, Bool, true, false, not, cond, ◌&&◌, List, [], ◌∷◌, None, Some, ◌⊎◌, inl, inr, refl, sym, ap, ◌∙◌, int_eq, rules, arith}
-use Rattle.std.specs.Map.{lookup}
+use Rattle.std.proofs.Common.{◌≡◌, ℕ, ℤ, Bool, true, false, not, cond, ◌&&◌, None, Some, ◌⊎◌, inl, inr, refl, sym, ap, ◌∙◌, int_eq, rules, arith}
 use Rattle.std.specs.HashMap.{HashMap, get_by}
 use Rattle.std.proofs.lemmas.Bool.{false≢true}
 use Rattle.std.proofs.lemmas.Bool.Decides.{nat_tests}
 use Rattle.std.proofs.lemmas.Int.{ints}
 use Rattle.std.proofs.lemmas.Option.{same_Some, none-some}
+use Rattle.leg_lemmas.proofs.Lookups.{lookup_agrees}
 use Rattle.leg_geom.specs.Plane.{PointModel}
 use Rattle.leg_wire.specs.contracts.corner.BesidePartialEq.TheImpl.{eq-value}
 use Rattle.leg_wire.specs.declared.corner.Beside.{Beside}
@@ -32,11 +32,6 @@ same_pieces a b test =
 -- and a key as equal to itself
 are_same_pieces-refl : (a : Beside) → are_same_pieces a a ≡ true
 are_same_pieces-refl a = grind (arith, nat_tests)
-
--- tests that agree find the same
-lookup_agrees : {K X : Type 0} (p q : K → Bool) → ((k : K) → p k ≡ q k) → (es : List (K × X)) → lookup p es ≡ lookup q es
-lookup_agrees p q agree [] = refl
-lookup_agrees p q agree (e ∷ es) = rw (agree e.0, lookup_agrees p q agree es) refl
 
 -- what is found by the comparison of keys
 first_seen_is : {S : Type 0} (m : HashMap Beside (ℤ × ℤ) S) (pieces : Beside) → first_seen m.entries pieces ≡ get_by (eq-value.it pieces) m
@@ -105,7 +100,8 @@ module _ {S : Type 0} (before : HashMap Beside (ℤ × ℤ) S) (a b : PieceShape
       here : first_seen after.entries (pieces_beside a b) ≡ Some corner
       here = rw (are_same_pieces-refl (pieces_beside a b)) at (updated (pieces_beside a b))
 
-      by_test : (q : Beside) (test : Bool) → are_same_pieces (pieces_beside a b) q ≡ test → (q ≡ pieces_beside a b) ⊎ (first_seen after.entries q ≡ first_seen before.entries q)
+      by_test : (q : Beside) (test : Bool) → are_same_pieces (pieces_beside a b) q ≡ test
+          → (q ≡ pieces_beside a b) ⊎ (first_seen after.entries q ≡ first_seen before.entries q)
       by_test q true same = inl (sym (same_pieces (pieces_beside a b) q same))
       by_test q false apart = inr (rw apart at (updated q))
 

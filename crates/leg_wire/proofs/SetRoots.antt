@@ -42,7 +42,8 @@ own_after roots (p ∷ ps) (suc k) n at within is =
     own_after (roots ++ root ∷ []) ps k n (omega (arith, at, more)) (omega (arith, within)) is
 
 -- a number whose parent is below it
-below_after : (roots parents : List ℕ) (k n : ℕ) → n ≡ length roots + k → k < length parents → get_or parents k 0 < n → get_or (roots_after roots parents) n 0 ≡ get_or (roots_after roots parents) (get_or parents k 0) 0
+below_after : (roots parents : List ℕ) (k n : ℕ) → n ≡ length roots + k → k < length parents → get_or parents k 0 < n
+    → get_or (roots_after roots parents) n 0 ≡ get_or (roots_after roots parents) (get_or parents k 0) 0
 below_after roots [] k n at within low = absurd (omega (arith, within))
 below_after roots (p ∷ ps) zero n at within low =
     let here : n ≡ length roots = omega (arith, at) in
@@ -79,7 +80,8 @@ roots_done parents roots i all so_far = rw (drop_all i parents all) at so_far
 
 module _ (parents : List ℕ) (forest : AreParents parents) where
   -- that alone says what the roots are
-  same_roots : (r s : List ℕ) → ((k : ℕ) → k < length parents → IsRootAt parents r k) → ((k : ℕ) → k < length parents → IsRootAt parents s k) → (end k : ℕ) → k < end → k < length parents → get_or r k 0 ≡ get_or s k 0
+  same_roots : (r s : List ℕ) → ((k : ℕ) → k < length parents → IsRootAt parents r k) → ((k : ℕ) → k < length parents → IsRootAt parents s k) → (end k : ℕ)
+      → k < end → k < length parents → get_or r k 0 ≡ get_or s k 0
   same_roots r s of_r of_s zero k before within = absurd (omega (arith, before))
   same_roots r s of_r of_s (suc end) k before within =
       elim (cases_eq (get_or parents k 0) k) [
@@ -99,7 +101,8 @@ module _ (parents : List ℕ) (forest : AreParents parents) where
       (λ k within. same_roots (roots_of parents) roots (rooted parents) are (suc k) k (omega arith) (omega (arith, all, within)))
 
   -- a root is no greater than the number, and its own parent
-  root_and_own : (end k : ℕ) → k < end → k < length parents → (get_or (roots_of parents) k 0 ≤ k) × (get_or parents (get_or (roots_of parents) k 0) 0 ≡ get_or (roots_of parents) k 0)
+  root_and_own : (end k : ℕ) → k < end → k < length parents
+      → (get_or (roots_of parents) k 0 ≤ k) × (get_or parents (get_or (roots_of parents) k 0) 0 ≡ get_or (roots_of parents) k 0)
   root_and_own zero k before within = absurd (omega (arith, before))
   root_and_own (suc end) k before within =
       elim (cases_eq (get_or parents k 0) k) [
@@ -187,7 +190,8 @@ module _ (parents : List ℕ) (forest : AreParents parents) where
         ]
 
 -- halving changes no root
-pub roots_halved : (parents : List ℕ) → AreParents parents → (k : ℕ) → k < length parents → roots_of (set parents k (get_or parents (get_or parents k 0) 0)) ≡ roots_of parents
+pub roots_halved : (parents : List ℕ) → AreParents parents → (k : ℕ) → k < length parents
+    → roots_of (set parents k (get_or parents (get_or parents k 0) 0)) ≡ roots_of parents
 roots_halved parents forest k within =
     let grand = get_or parents (get_or parents k 0) 0 in
     roots_are (set parents k grand) (forest_halved parents forest k within) (roots_of parents)

@@ -32,8 +32,8 @@ take_step shapes sets sets_after seen seen_after pair a b a_is b_is a_in b_in st
 }
 
 -- two rectangles join their pieces, which are united
-pub join_step : (a b : PieceShape) (sets sets_after : List ℕ) (seen seen_after : List (Beside × (ℤ × ℤ))) (join : Bool) → join ≡ true → AnswersJoin a b sets seen seen_after join
-    → AreUnited a.piece b.piece sets sets_after → IsJoinStep a b sets sets_after seen seen_after
+pub join_step : (a b : PieceShape) (sets sets_after : List ℕ) (seen seen_after : List (Beside × (ℤ × ℤ))) (join : Bool) → join ≡ true
+    → AnswersJoin a b sets seen seen_after join → AreUnited a.piece b.piece sets sets_after → IsJoinStep a b sets sets_after seen seen_after
 join_step a b sets sets_after seen seen_after join told (joined_before apart together same) united = absurd (true≢false (sym told ∙ apart))
 join_step a b sets sets_after seen seen_after join told (were_apart apart touch) united = are_united (rw told at touch) united
 
@@ -52,7 +52,8 @@ module _ (shapes : List PieceShape) (count : ℕ) where
     so_far : ((p : ℕ × ℕ) → Contains found p → IsPair DoMeet shapes p) → AreSoFar shapes count found state.sets state.seen
 
   -- one more pair
-  underway_more : (found : List (ℕ × ℕ)) (p : ℕ × ℕ) (between after : JoinState) → IsUnderway found between → TakesPair between p after → IsUnderway (found ++ p ∷ []) after
+  underway_more : (found : List (ℕ × ℕ)) (p : ℕ × ℕ) (between after : JoinState) → IsUnderway found between → TakesPair between p after
+      → IsUnderway (found ++ p ∷ []) after
   underway_more found p between after done takes = record {
     same_shapes = takes.shapes ∙ done.same_shapes;
     so_far = λ meet.
@@ -62,14 +63,16 @@ module _ (shapes : List PieceShape) (count : ℕ) where
   }
 
 -- Some pairs of metal that meets were taken.
-pub taken_so_far : (shapes : List PieceShape) (count : ℕ) (before after : JoinState) (found : List (ℕ × ℕ)) → before.shapes ≡ shapes → AreSoFar shapes count [] before.sets before.seen
+pub taken_so_far : (shapes : List PieceShape) (count : ℕ) (before after : JoinState) (found : List (ℕ × ℕ)) → before.shapes ≡ shapes
+    → AreSoFar shapes count [] before.sets before.seen
     → All (IsPair DoMeet shapes) found → TakesAll TakesPair before found after → AreSoFar shapes count found after.sets after.seen
 taken_so_far shapes count before after found same begun each taken =
-    (takes_along TakesPair before (IsUnderway shapes count) (record { same_shapes = same; so_far = λ meet. begun }) (underway_more shapes count) found after taken).so_far
-    (λ p has. All-contains (IsPair DoMeet shapes) found p each has)
+    (takes_along TakesPair before (IsUnderway shapes count) (record { same_shapes = same; so_far = λ meet. begun })
+    (underway_more shapes count) found after taken).so_far (λ p has. All-contains (IsPair DoMeet shapes) found p each has)
 
 -- what is together stays so when two rectangles are taken
-step_keeps : (a b : PieceShape) (sets sets_after : List ℕ) (seen seen_after : List (Beside × (ℤ × ℤ))) → IsJoinStep a b sets sets_after seen seen_after → AreKept sets sets_after
+step_keeps : (a b : PieceShape) (sets sets_after : List ℕ) (seen seen_after : List (Beside × (ℤ × ℤ))) → IsJoinStep a b sets sets_after seen seen_after
+    → AreKept sets sets_after
 step_keeps a b sets sets_after seen seen_after (were_together together same seen_same) x y is = rw same is
 step_keeps a b sets sets_after seen seen_after (are_united told united) x y is = united.kept x y is
 step_keeps a b sets sets_after seen seen_after (stay_apart told same) x y is = rw same is
@@ -79,7 +82,8 @@ module _ (shapes : List PieceShape) (begun : List ℕ) where
     same_shapes : state.shapes ≡ shapes
     kept : ((p : ℕ × ℕ) → Contains found p → IsPair DoMeet shapes p) → AreKept begun state.sets
 
-  kept_more : (found : List (ℕ × ℕ)) (p : ℕ × ℕ) (between after : JoinState) → IsKeptSoFar found between → TakesPair between p after → IsKeptSoFar (found ++ p ∷ []) after
+  kept_more : (found : List (ℕ × ℕ)) (p : ℕ × ℕ) (between after : JoinState) → IsKeptSoFar found between → TakesPair between p after
+      → IsKeptSoFar (found ++ p ∷ []) after
   kept_more found p between after done takes = record {
     same_shapes = takes.shapes ∙ done.same_shapes;
     kept = λ meet x y is.
@@ -90,11 +94,11 @@ module _ (shapes : List PieceShape) (begun : List ℕ) where
   }
 
 -- and so when many are
-pub taken_keeps : (shapes : List PieceShape) (before after : JoinState) (found : List (ℕ × ℕ)) → before.shapes ≡ shapes → All (IsPair DoMeet shapes) found → TakesAll TakesPair before found after
-    → AreKept before.sets after.sets
+pub taken_keeps : (shapes : List PieceShape) (before after : JoinState) (found : List (ℕ × ℕ)) → before.shapes ≡ shapes → All (IsPair DoMeet shapes) found
+    → TakesAll TakesPair before found after → AreKept before.sets after.sets
 taken_keeps shapes before after found same each taken =
-    (takes_along TakesPair before (IsKeptSoFar shapes before.sets) (record { same_shapes = same; kept = λ meet x y is. is }) (kept_more shapes before.sets) found after taken).kept
-    (λ p has. All-contains (IsPair DoMeet shapes) found p each has)
+    (takes_along TakesPair before (IsKeptSoFar shapes before.sets) (record { same_shapes = same; kept = λ meet x y is. is })
+    (kept_more shapes before.sets) found after taken).kept (λ p has. All-contains (IsPair DoMeet shapes) found p each has)
 
 -- All pairs of metal that meets were taken, where at first each piece was alone and no point was seen: then the sets are those
 -- of the pieces that are joined.
@@ -116,5 +120,7 @@ sets_taken Takes state says shapes count before after same_shapes alone unseen t
     underway.so_far (λ p has. All-contains (IsPair DoMeet shapes) took.found p took.are.each has) in
     record {
       some = record { size = done.size; joined = done.joined };
-      all = λ a b a_in joined. joined_together shapes count took.found took.are (state after).sets (state after).seen done a b (omega (arith, done.size, a_in)) joined;
+      all =
+          λ a b a_in joined. joined_together shapes count took.found took.are (state after).sets (state after).seen done a b
+          (omega (arith, done.size, a_in)) joined;
     }

@@ -1,9 +1,10 @@
 -- Two sets are made one, and which numbers are with the first.
-use Rattle.std.proofs.Common.{◌≡◌, ℕ, ◌+◌, ◌<◌, ◌≤◌, min, max, Bool, true, false, All, List, [], ◌∷◌, ◌++◌, length, map, get_or, set, nat_eq, Option, None, Some, option_map, slice_get, ◌⊎◌, inl, inr, refl, sym, ap, ◌∙◌, arith}
+use Rattle.std.proofs.Common.{◌≡◌, ℕ, ◌+◌, ◌<◌, ◌≤◌, min, max, Bool, true, false, All, List, [], ◌∷◌, ◌++◌, length, map, get_or, set, nat_eq, Some, option_map, slice_get, ◌⊎◌, inl, inr, refl, sym, ap, ◌∙◌, arith}
 use Rattle.std.proofs.lemmas.Bool.{cases_eq, cases_lt}
 use Rattle.std.proofs.lemmas.Bool.Decides.{nat_tests}
 use Rattle.std.proofs.lemmas.List.{length-map, length_push, get_or_append_left, get_or_at, get_or_default}
-use Rattle.std.proofs.lemmas.Option.{none-some, same_Some, slice_get-map, slice_get-get_or, slice_get_within, slice_get_read, get_or_from_slice_get}
+use Rattle.std.proofs.lemmas.Option.{same_Some, slice_get-map, slice_get-get_or, slice_get_within, slice_get_read, get_or_from_slice_get}
+use Rattle.leg_lemmas.proofs.Places.{mapped_at}
 use Rattle.leg_wire.specs.Steps.NumberSets.{AreTogether, AreUnited, IsMerged, AreParents, roots_of}
 use Rattle.leg_wire.specs.Steps.Joins.{HasOneNumberMore}
 use Rattle.leg_wire.specs.PieceMarks.{AreMarks, AreFirsts}
@@ -31,12 +32,6 @@ module _ (sets : List ℕ) where
 -- what stands in a list whose elements were changed
 at_map : (f : ℕ → ℕ) (xs : List ℕ) (k x : ℕ) → slice_get xs k ≡ Some x → slice_get (map f xs) k ≡ Some (f x)
 at_map f xs k x at = slice_get-map f xs k ∙ ap (option_map f) at
-
-from_map : (f : ℕ → ℕ) (xs : List ℕ) (k y : ℕ) → slice_get (map f xs) k ≡ Some y → (x : ℕ) × (slice_get xs k ≡ Some x) × (f x ≡ y)
-from_map f xs k y at = by (slice_get xs k) (sym (slice_get-map f xs k) ∙ at) where
-  by : (o : Option ℕ) → option_map f o ≡ Some y → (x : ℕ) × (o ≡ Some x) × (f x ≡ y)
-  by None told = absurd (none-some y told)
-  by (Some x) told = (x, refl, same_Some (f x) y told)
 
 -- the sets of two numbers with the least numbers low and high are made one
 module _ (sets : List ℕ) (low high a b : ℕ) (of_a : slice_get sets a ≡ Some low) (of_b : slice_get sets b ≡ Some high) where
@@ -76,9 +71,9 @@ module _ (sets : List ℕ) (low high a b : ℕ) (of_a : slice_get sets a ≡ Som
       of_b = at_map (merged low high) sets y h.least h.of_b;
     };
     no_more = λ x y h.
-        let of_x = from_map (merged low high) sets x h.least h.of_a in
-        let of_y = from_map (merged low high) sets y h.least h.of_b in
-        joined_cases x y of_x.0 of_y.0 of_x.1 of_y.1 (of_x.2 ∙ sym of_y.2);
+        let of_x = mapped_at (merged low high) sets x h.least h.of_a in
+        let of_y = mapped_at (merged low high) sets y h.least h.of_b in
+        joined_cases x y of_x.0 of_y.0 of_x.1 of_y.1 (sym of_x.2 ∙ of_y.2);
   }
 
 -- the sets with these least numbers are made one
@@ -128,7 +123,8 @@ module _ (parents : List ℕ) (forest : AreParents parents) where
       )
 
   pub united : (a b first second : ℕ) → slice_get (roots_of parents) a ≡ Some first → slice_get (roots_of parents) b ≡ Some second
-      → AreParents (set parents (max first second) (min first second)) × AreUnited a b (roots_of parents) (roots_of (set parents (max first second) (min first second)))
+      → AreParents (set parents (max first second) (min first second)) × AreUnited a b (roots_of parents)
+      (roots_of (set parents (max first second) (min first second)))
   united a b first second of_a of_b =
       elim (cases_lt first second) [
         | inl less ↦
@@ -170,11 +166,13 @@ module _ (parents : List ℕ) (forest : AreParents parents) where
   united_merged a b first second one other of_a of_b is_one is_other =
       rw (same_Some one first (sym is_one ∙ of_a), same_Some other second (sym is_other ∙ of_b)) (merged_in_order a b first second of_a of_b)
 
-  pub root_bound : (a b first second : ℕ) → slice_get (roots_of parents) a ≡ Some first → slice_get (roots_of parents) b ≡ Some second → max first second < length parents
+  pub root_bound : (a b first second : ℕ) → slice_get (roots_of parents) a ≡ Some first → slice_get (roots_of parents) b ≡ Some second
+      → max first second < length parents
   root_bound a b first second of_a of_b = omega (arith, (root_known a first of_a).0, (root_known b second of_b).0)
 
   -- one more number, whose parent is below it, or isn't
-  pub mark_by_parent : (k : ℕ) (marks : List Bool) → AreMarksSoFar parents k marks → k < length parents → get_or parents k 0 < k → get_or marks (get_or parents k 0) false ≡ nat_eq (get_or (roots_of parents) k 0) 0
+  pub mark_by_parent : (k : ℕ) (marks : List Bool) → AreMarksSoFar parents k marks → k < length parents → get_or parents k 0 < k
+      → get_or marks (get_or parents k 0) false ≡ nat_eq (get_or (roots_of parents) k 0) 0
   mark_by_parent k marks done within low =
       done.is (get_or parents k 0) low ∙ ap (λ n. nat_eq n 0) (sym ((rooted parents k within).below low))
 
@@ -184,7 +182,8 @@ module _ (parents : List ℕ) (forest : AreParents parents) where
       let own : get_or parents k 0 ≡ k = omega (arith, low, high) in
       ap (λ n. nat_eq n 0) (sym ((rooted parents k within).own own))
 
-  pub marks_more : (k : ℕ) (marks : List Bool) (mark : Bool) → AreMarksSoFar parents k marks → mark ≡ nat_eq (get_or (roots_of parents) k 0) 0 → AreMarksSoFar parents (k + 1) (marks ++ mark ∷ [])
+  pub marks_more : (k : ℕ) (marks : List Bool) (mark : Bool) → AreMarksSoFar parents k marks → mark ≡ nat_eq (get_or (roots_of parents) k 0) 0
+      → AreMarksSoFar parents (k + 1) (marks ++ mark ∷ [])
   marks_more k marks mark done is = record {
     many = (let more = length_push marks mark in omega (arith, more, done.many));
     is = λ j before. elim (cases_lt j k) [
@@ -203,7 +202,8 @@ module _ (parents : List ℕ) (forest : AreParents parents) where
         let many : length (roots_of parents) ≡ length parents = length-roots_of parents in
         let known = root_known k first at in
         let own : get_or (roots_of parents) first 0 ≡ first = (rooted parents first known.0).own known.1 in
-        let itself : slice_get (roots_of parents) first ≡ Some first = slice_get-get_or (roots_of parents) first 0 (omega (arith, many, known.0)) ∙ ap Some own in
+        let itself : slice_get (roots_of parents) first ≡ Some first =
+        slice_get-get_or (roots_of parents) first 0 (omega (arith, many, known.0)) ∙ ap Some own in
         record {
           within = omega (arith, many, known.0);
           joined = record { least = first; of_a = at; of_b = itself };
@@ -224,7 +224,8 @@ module _ (parents : List ℕ) (forest : AreParents parents) where
       omega (arith, low, within)
 
   -- all numbers
-  pub marks_done : (count : ℕ) (marks : List Bool) → count ≡ length parents → AreMarksSoFar parents count marks → AreMarks (AreTogether (roots_of parents) 0) (length (roots_of parents)) marks
+  pub marks_done : (count : ℕ) (marks : List Bool) → count ≡ length parents → AreMarksSoFar parents count marks
+      → AreMarks (AreTogether (roots_of parents) 0) (length (roots_of parents)) marks
   marks_done count marks all done = record {
     count = done.many ∙ all ∙ sym (length-roots_of parents);
     each = λ k mark at.
@@ -232,10 +233,12 @@ module _ (parents : List ℕ) (forest : AreParents parents) where
         let within : k < length parents = omega (arith, k_in, done.many, all) in
         let many : length (roots_of parents) ≡ length parents = length-roots_of parents in
         let first : slice_get (roots_of parents) 0 ≡ Some 0 = first_root k within in
-        let here : slice_get (roots_of parents) k ≡ Some (get_or (roots_of parents) k 0) = slice_get-get_or (roots_of parents) k 0 (omega (arith, within, many)) in
+        let here : slice_get (roots_of parents) k ≡ Some (get_or (roots_of parents) k 0) =
+        slice_get-get_or (roots_of parents) k 0 (omega (arith, within, many)) in
         let told : mark ≡ nat_eq (get_or (roots_of parents) k 0) 0 =
         sym (get_or_from_slice_get marks k mark false at) ∙ done.is k (omega (arith, within, all)) in (
-          λ yes_mark. AreTogether-from (roots_of parents) 0 k 0 (get_or (roots_of parents) k 0) first here (sym (from_test (get_or (roots_of parents) k 0) (sym told ∙ yes_mark))),
+          λ yes_mark. AreTogether-from (roots_of parents) 0 k 0 (get_or (roots_of parents) k 0) first here
+              (sym (from_test (get_or (roots_of parents) k 0) (sym told ∙ yes_mark))),
           λ h.
               let least : h.least ≡ 0 = same_Some h.least 0 (sym h.of_a ∙ first) in
               let root : get_or (roots_of parents) k 0 ≡ 0 = same_Some (get_or (roots_of parents) k 0) 0 (sym here ∙ h.of_b ∙ ap Some least) in

@@ -1,8 +1,9 @@
 -- The only point that two rectangles share.
-use Rattle.std.proofs.Common.{◌≡◌, ℤ, ◌≤ℤ◌, ap, ◌∙◌, arith}
+use Rattle.std.proofs.Common.{◌≡◌, ℤ, ◌≤ℤ◌, ap, arith}
 use Rattle.std.specs.Int.{int_max}
 use Rattle.std.proofs.lemmas.Int.{ints, by_lt_z}
 use Rattle.leg_geom.specs.Plane.{PointModel, RectModel, SharePoint, ShareTwoPoints}
+use Rattle.leg_geom.proofs.Points.{same_point}
 use Rattle.leg_wire.specs.Steps.SharedPoints.{spot_of, IsShared, IsOnlyShared}
 
 -- the greater of two numbers is the least one that is below neither
@@ -14,10 +15,6 @@ second_below_max a b = grind (arith, ints)
 
 max_below : (a b z : ℤ) → a ≤ℤ z → b ≤ℤ z → int_max a b ≤ℤ z
 max_below a b z first second = grind (arith, ints)
-
--- points with equal coordinates
-same_spot : (p q : PointModel) → p.x ≡ q.x → p.y ≡ q.y → p ≡ q
-same_spot p q x y = ap (λ (u : ℤ). spot_of (u, p.y)) x ∙ ap (λ (v : ℤ). spot_of (q.x, v)) y
 
 module _ (a b : RectModel) (x y : ℤ) (x_is : x ≡ int_max a.x1 b.x1) (y_is : y ≡ int_max a.y1 b.y1) where
   -- the lower left corner of what two rectangles share
@@ -39,7 +36,7 @@ module _ (a b : RectModel) (x y : ℤ) (x_is : x ≡ int_max a.x1 b.x1) (y_is : 
 
   -- where they share a single point, it is this one
   pub corner_only : SharePoint a b → (ShareTwoPoints a b → ⊥) → IsOnlyShared a b (spot_of (x, y))
-  corner_only meet single = record { shared = shared; only = λ q in_both. same_spot q (spot_of (x, y)) (same_x q in_both) (same_y q in_both) }
+  corner_only meet single = record { shared = shared; only = λ q in_both. same_point q (spot_of (x, y)) (same_x q in_both) (same_y q in_both) }
     where
       shared : IsShared a b (spot_of (x, y))
       shared = corner_shared meet

@@ -47,7 +47,8 @@ module _ (kinds metal : List PieceShape) (among : All (Contains metal) kinds) wh
   pub some_of_kinds : (count : ℕ) (sets : List ℕ) → AreSetsOf kinds count sets → AreSomeJoined metal count sets
   some_of_kinds count sets are = record { size = are.some.size; joined = λ a b together. joined_more a b (are.some.joined a b together) }
 
-module _ (metal : List PieceShape) (count : ℕ) (sets after : List ℕ) (some : AreSomeJoined metal count sets) (s t : PieceShape) (s_in : Contains metal s) (t_in : Contains metal t) where
+module _ (metal : List PieceShape) (count : ℕ) (sets after : List ℕ) (some : AreSomeJoined metal count sets) (s t : PieceShape) (s_in : Contains metal s)
+    (t_in : Contains metal t) where
   -- two pieces that touch are made one
   joined_by_touch : TouchAmong metal s.piece t.piece → AreUnited s.piece t.piece sets after → (a b : ℕ) → AreTogether after a b → Joined (TouchAmong metal) a b
   joined_by_touch touches united a b together =
@@ -68,19 +69,21 @@ module _ (metal : List PieceShape) (count : ℕ) (sets after : List ℕ) (some :
     size = united.count ∙ some.size;
     joined =
         joined_by_touch
-        (touch_by_two metal s t s_in t_in (record { layer = layer; others = others; shared = record { point = two.p; in_a = two.p_in_a; in_b = two.p_in_b } }) two)
+        (touch_by_two metal s t s_in t_in
+        (record { layer = layer; others = others; shared = record { point = two.p; in_a = two.p_in_a; in_b = two.p_in_b } }) two)
         united;
   }
 
 -- what stands for a kind is some of the metal
-pub kind_among : (metal kinds : List PieceShape) (numbers : List ℕ) → length numbers ≡ length metal → All (λ number. number < length kinds) numbers → All (Contains metal) kinds
-    → (k d : ℕ) (kind : PieceShape) → k < length metal → kind ≡ get_or kinds (get_or numbers k d) kind → Contains metal kind
+pub kind_among : (metal kinds : List PieceShape) (numbers : List ℕ) → length numbers ≡ length metal → All (λ number. number < length kinds) numbers
+    → All (Contains metal) kinds → (k d : ℕ) (kind : PieceShape) → k < length metal → kind ≡ get_or kinds (get_or numbers k d) kind → Contains metal kind
 kind_among metal kinds numbers count within among k d kind there is =
     let low : get_or numbers k d < length kinds = within k d (omega (arith, count, there)) in
     rw (← is) at (among (get_or numbers k d) kind low)
 
 -- the shapes so far are with those that stand for their kinds
-pub alike_more : (metal kinds : List PieceShape) (numbers : List ℕ) (i : ℕ) (sets after : List ℕ) → AreTogetherAlike metal kinds numbers i sets → AreKept sets after
+pub alike_more : (metal kinds : List PieceShape) (numbers : List ℕ) (i : ℕ) (sets after : List ℕ) → AreTogetherAlike metal kinds numbers i sets
+    → AreKept sets after
     → (s t : PieceShape) → slice_get metal i ≡ Some s → t ≡ get_or kinds (get_or numbers i 0) t → s.piece < length after → IsTouchStep s t sets after
     → AreTogetherAlike metal kinds numbers (i + 1) after
 alike_more metal kinds numbers i sets after done kept s t s_at t_is low step k one kind below at kind_at layer two = elim (cases_lt k i) [

@@ -33,7 +33,8 @@ module _ (library : LibraryModel) (reach : ℕ) (within : All (λ layer. unsigne
         | inr near ↦ by (slice_get library.layers a.layer) refl near
       ]
     where
-      by : (there : Option Layer) → slice_get library.layers a.layer ≡ there → AreNearer (limit_at library.layers reach a.layer) a.rect b.rect → AreTooNear library a b
+      by : (there : Option Layer) → slice_get library.layers a.layer ≡ there → AreNearer (limit_at library.layers reach a.layer) a.rect b.rect
+          → AreTooNear library a b
       by None is near = let none = rw is at near.near in absurd (omega (arith, none))
       by (Some layer) is near = record {
         comparable = close.comparable;
@@ -93,7 +94,8 @@ module _ (library : LibraryModel) (reach : ℕ) (within : All (λ layer. unsigne
     -- and so are shapes too near
     told_near : (i j : ℕ) → IsPair (AreTooNear library) flat.shapes (i, j) → IsPairViolation TooNear ShareNoPoint flat.shapes close (TooNear i j)
     told_near i j h =
-        let near : AreNearer (limit_at library.layers reach h.a.layer) h.a.rect h.b.rect = rw (limit-there h.a.layer h.holds.layer h.holds.there) h.holds.near in
+        let near : AreNearer (limit_at library.layers reach h.a.layer) h.a.rect h.b.rect =
+        rw (limit-there h.a.layer h.holds.layer h.holds.there) h.holds.near in
         let pair : IsPair (AreClose library.layers reach) flat.shapes (i, j) = record {
           a = h.a;
           b = h.b;
@@ -105,15 +107,18 @@ module _ (library : LibraryModel) (reach : ℕ) (within : All (λ layer. unsigne
         record { p = (i, j); is = refl; among = are.all (i, j) pair; a = h.a; b = h.b; a_at = h.a_at; b_at = h.b_at; test = h.holds.apart }
 
     -- shorts come first
-    shorts_first : (v w : Fault) → IsPairViolation Short DoShare flat.shapes close v → IsPairViolation TooNear ShareNoPoint flat.shapes close w → ComesBefore v w
+    shorts_first : (v w : Fault) → IsPairViolation Short DoShare flat.shapes close v → IsPairViolation TooNear ShareNoPoint flat.shapes close w
+        → ComesBefore v w
     shorts_first v w one other =
         rw (one.is, other.is) (record { kind = omega arith; first = λ same. absurd (omega (arith, same)); second = λ same. absurd (omega (arith, same)) })
 
     -- the shorts and the shapes too near are all that there is
-    pub listing_told : (shorts near : List Fault) → IsListOf (IsPairViolation Short DoShare flat.shapes close) shorts → IsListOf (IsPairViolation TooNear ShareNoPoint flat.shapes close) near → IsListOf (IsSpacingViolation library flat) (shorts ++ near)
+    pub listing_told : (shorts near : List Fault) → IsListOf (IsPairViolation Short DoShare flat.shapes close) shorts
+        → IsListOf (IsPairViolation TooNear ShareNoPoint flat.shapes close) near → IsListOf (IsSpacingViolation library flat) (shorts ++ near)
     listing_told shorts near s n = record {
       increasing =
-          AllPairs-append_by ComesBefore (IsPairViolation Short DoShare flat.shapes close) (IsPairViolation TooNear ShareNoPoint flat.shapes close) shorts_first shorts near
+          AllPairs-append_by ComesBefore (IsPairViolation Short DoShare flat.shapes close)
+          (IsPairViolation TooNear ShareNoPoint flat.shapes close) shorts_first shorts near
           s.each n.each s.increasing n.increasing;
       each =
           All-append (IsSpacingViolation library flat) shorts near

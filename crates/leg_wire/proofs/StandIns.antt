@@ -56,11 +56,17 @@ module _ (metal kinds : List PieceShape) (staying : List Bool) where
   }
 
   -- one shape more was looked at, and is there if its piece stays
-  pub staying_next : (i : ℕ) (rest after : List PieceShape) (one : PieceShape) → slice_get metal i ≡ Some one → IsStayingMetal metal kinds staying i rest → HasOneMore rest one after → (get_or staying one.piece true ≡ true → Contains after one)
+  pub staying_next : (i : ℕ) (rest after : List PieceShape) (one : PieceShape) → slice_get metal i ≡ Some one → IsStayingMetal metal kinds staying i rest
+      → HasOneMore rest one after → (get_or staying one.piece true ≡ true → Contains after one)
       → IsStayingMetal metal kinds staying (i + 1) after
   staying_next i rest after one at done got there = record {
-    few = let few = got.few in let old = done.few in let size : length after ≡ length rest + length got.more = ap length got.is ∙ length-append rest got.more in omega (arith, few, old, size);
-    among = rw got.is (All-append (Contains metal) rest got.more done.among (All-weaker (λ s. s ≡ one) (Contains metal) (λ s same. rw same here) got.more got.only));
+    few =
+        let few = got.few in
+        let old = done.few in
+        let size : length after ≡ length rest + length got.more = ap length got.is ∙ length-append rest got.more in omega (arith, few, old, size);
+    among =
+        rw got.is (All-append (Contains metal) rest got.more done.among
+        (All-weaker (λ s. s ≡ one) (Contains metal) (λ s same. rw same here) got.more got.only));
     one_each = All-weaker (Contains rest) (Contains after) (λ s old. kept s old) kinds done.one_each;
     all = λ k other below there_at stays. elim (cases_lt k i) [
       | inl before ↦ kept other (done.all k other before there_at stays)
@@ -85,7 +91,8 @@ latest_none kinds = record {
 }
 
 -- a shape that is there takes the place of the one of its kind
-pub latest_next : (kinds rest latest after : List PieceShape) (n : ℕ) (one kind late : PieceShape) → slice_get kinds n ≡ Some kind → AreSameMetal one kind → AreSameMetal one late → Contains after late → HasOneMore rest one after → AreLatest kinds rest latest
+pub latest_next : (kinds rest latest after : List PieceShape) (n : ℕ) (one kind late : PieceShape) → slice_get kinds n ≡ Some kind → AreSameMetal one kind
+    → AreSameMetal one late → Contains after late → HasOneMore rest one after → AreLatest kinds rest latest
     → AreLatest kinds after (set latest n late)
 latest_next kinds rest latest after n one kind late at like alike there got done = record {
   count = length-set latest n late ∙ done.count;
@@ -96,13 +103,16 @@ latest_next kinds rest latest after n one kind late at like alike there got done
         rw (new, ← is_kind) (record { layer = sym like.layer ∙ alike.layer; rect = sym like.rect ∙ alike.rect })
     | inr differ ↦ rw (get_or-set_other latest n m late d differ) (done.alike m other d other_at)
   ];
-  there = All-set (Contains after) latest n late there (All-weaker (Contains rest) (Contains after) (λ s old. rw got.is (Contains-append_left rest got.more s old)) latest done.there);
+  there =
+      All-set (Contains after) latest n late there
+      (All-weaker (Contains rest) (Contains after) (λ s old. rw got.is (Contains-append_left rest got.more s old)) latest done.there);
 } where
   within : n < length latest
   within = let low = slice_get_within kinds n kind at in let count = done.count in omega (arith, low, count)
 
 module _ (metal kinds : List PieceShape) (numbers : List ℕ) (are_kinds : AreKinds AreSameMetal metal kinds numbers) (stand_ins : List ℕ) (staying : List Bool)
-    (are_staying : AreStaying metal kinds numbers stand_ins (length metal) staying) (rest : List PieceShape) (is_rest : IsStayingMetal metal kinds staying (length metal) rest)
+    (are_staying : AreStaying metal kinds numbers stand_ins (length metal) staying) (rest : List PieceShape)
+    (is_rest : IsStayingMetal metal kinds staying (length metal) rest)
     (count : ℕ) (places : All (λ shape. shape.piece < count) metal) (sets after : List ℕ) (are : AreSetsOf rest count sets)
     (some : AreSomeJoined metal count after) (kept : AreKept sets after) (alike : AreTogetherAlike metal kinds numbers (length metal) after) where
   -- what lies in a piece lies in that which stands for it, and they are together
@@ -134,7 +144,11 @@ module _ (metal kinds : List PieceShape) (numbers : List ℕ) (are_kinds : AreKi
           is = rw gone is_to;
           lies = record {
             shape = of.kind;
-            has = All-contains (Contains rest) kinds of.kind is_rest.one_each (get_or numbers lies.has.0 0, slice_get_within kinds (get_or numbers lies.has.0 0) of.kind of.at, get_or_from_slice_get kinds (get_or numbers lies.has.0 0) of.kind of.kind of.at);
+            has = All-contains (Contains rest) kinds of.kind is_rest.one_each (
+              get_or numbers lies.has.0 0,
+              slice_get_within kinds (get_or numbers lies.has.0 0) of.kind of.at,
+              get_or_from_slice_get kinds (get_or numbers lies.has.0 0) of.kind of.kind of.at,
+            );
             of_piece = refl;
             on_layer = sym of.alike.layer ∙ lies.on_layer;
             inside = rw of.alike.rect at lies.inside;

@@ -138,7 +138,8 @@ module _ (flat : FlatModel) (n : ℕ) (pieces : List PieceShape) (are : ArePiece
   joined_within a b a_in (through joined touch) = touch.p_in_b.of_piece.there
 
   -- where all pieces are together, what is together needs only to be joined
-  pub sets_of_one : (sets : List ℕ) → AreSomeJoined pieces (piece_count flat n) sets → ((k : ℕ) → k < piece_count flat n → AreTogether sets 0 k) → AreJoinedSets flat n sets
+  pub sets_of_one : (sets : List ℕ) → AreSomeJoined pieces (piece_count flat n) sets → ((k : ℕ) → k < piece_count flat n → AreTogether sets 0 k)
+      → AreJoinedSets flat n sets
   sets_of_one sets some one = record {
     count = some.size;
     each = λ a b a_in. (
@@ -148,7 +149,8 @@ module _ (flat : FlatModel) (n : ℕ) (pieces : List PieceShape) (are : ArePiece
   }
 
 -- the sets that are kept of a net are those of its pieces
-pub sets_of_joins : (flat : FlatModel) (joins : JoinsModel) → AreJoinsOf flat joins → AreSetsOf joins.metal (length joins.sets) joins.sets → AreJoinedSets flat joins.net joins.sets
+pub sets_of_joins : (flat : FlatModel) (joins : JoinsModel) → AreJoinsOf flat joins → AreSetsOf joins.metal (length joins.sets) joins.sets
+    → AreJoinedSets flat joins.net joins.sets
 sets_of_joins flat joins are sets = sets_of_net flat joins.net joins.metal are.metal joins.sets (rw are.count at sets)
 
 -- numbers that are each in a set of its own are together with themselves alone
@@ -175,7 +177,8 @@ so_far_none pieces count seen unseen = record {
 }
 
 -- marks of what is together with the first piece are marks of what is joined to it
-pub marks_of_joined : (flat : FlatModel) (net : ℕ) (sets : List ℕ) (marks : List Bool) → AreJoinedSets flat net sets → AreMarks (AreTogether sets 0) (length sets) marks → AreMarks (AreJoined flat net 0) (piece_count flat net) marks
+pub marks_of_joined : (flat : FlatModel) (net : ℕ) (sets : List ℕ) (marks : List Bool) → AreJoinedSets flat net sets
+    → AreMarks (AreTogether sets 0) (length sets) marks → AreMarks (AreJoined flat net 0) (piece_count flat net) marks
 marks_of_joined flat net sets marks joined done = record {
   count = done.count ∙ joined.count;
   each = λ k mark at.
@@ -186,7 +189,8 @@ marks_of_joined flat net sets marks joined done = record {
 }
 
 -- and the least pieces that are together with each are the least that are joined to it
-pub firsts_of_joined : (flat : FlatModel) (net : ℕ) (sets firsts : List ℕ) → AreJoinedSets flat net sets → AreFirsts (AreTogether sets) (length sets) firsts → AreFirsts (AreJoined flat net) (piece_count flat net) firsts
+pub firsts_of_joined : (flat : FlatModel) (net : ℕ) (sets firsts : List ℕ) → AreJoinedSets flat net sets → AreFirsts (AreTogether sets) (length sets) firsts
+    → AreFirsts (AreJoined flat net) (piece_count flat net) firsts
 firsts_of_joined flat net sets firsts joined done = record {
   count = done.count ∙ joined.count;
   each = λ k first at.
@@ -201,8 +205,8 @@ firsts_of_joined flat net sets firsts joined done = record {
 }
 
 -- where all marks of what is together with the first piece are set, all pieces are
-pub all_marked : (sets : List ℕ) (count : ℕ) (marks : List Bool) → length sets ≡ count → AreMarks (AreTogether sets 0) (length sets) marks → All (λ mark. IsTrue mark) marks
-    → (k : ℕ) → k < count → AreTogether sets 0 k
+pub all_marked : (sets : List ℕ) (count : ℕ) (marks : List Bool) → length sets ≡ count → AreMarks (AreTogether sets 0) (length sets) marks
+    → All (λ mark. IsTrue mark) marks → (k : ℕ) → k < count → AreTogether sets 0 k
 all_marked sets count marks many done set k k_in =
     let within : k < length marks = omega (arith, done.count, many, k_in) in
     (done.each k (get_or marks k true) (slice_get-get_or marks k true within)).0 (set k true within)

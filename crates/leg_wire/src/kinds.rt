@@ -65,7 +65,7 @@ impl Metal for PieceShape {
 }
 
 /// Whether the rectangles are the same.
-#[tactic(auto, using(crate::proofs::AlikeMetal::sides_same))]
+#[tactic(auto, using(leg_geom::proofs::Points::sides_same))]
 fn are_same(a: &Rect, b: &Rect) -> bool
     ensures { IsTrue result ↔ a.now ≡ b.now }
 {

@@ -9,7 +9,8 @@ use Rattle.leg_design_records.specs.WellFormed.{IsWellFormed}
 use Rattle.leg_design_records.specs.WellFormedNets.{IsWire}
 
 -- the wires of a net are spelled under the design's library and vias
-pub spelled_of : (design : DesignModel) → IsWellFormed design → (net : NetModel) → 0 < length design.nets → net ≡ slice_index_or design.nets 0 net → (library : LibraryModel) (vias : List ViaModel) → design.library ≡ library → design.vias ≡ vias → All (IsWire library vias false) net.wires
+pub spelled_of : (design : DesignModel) → IsWellFormed design → (net : NetModel) → 0 < length design.nets → net ≡ slice_index_or design.nets 0 net
+    → (library : LibraryModel) (vias : List ViaModel) → design.library ≡ library → design.vias ≡ vias → All (IsWire library vias false) net.wires
 spelled_of design proper net some is library vias same_library same_vias =
     rw (same_library, same_vias, ← is) at (proper.nets.nets.each 0 net some).wires
 
@@ -20,7 +21,8 @@ wire_count_one (first ∷ []) net one is none = omega (arith, rw is at none)
 wire_count_one (first ∷ second ∷ rest) net one is none = absurd (omega (arith, one))
 
 -- the one net of a list, which has no wires, gets those of a list
-pub wire_count_with : (nets : List NetModel) (net : NetModel) (wires : List Wire) → length nets ≡ 1 → net ≡ slice_index_or nets 0 net → length net.wires ≡ 0 → wire_count (with_more_wires nets (wires ∷ [])) ≡ length wires
+pub wire_count_with : (nets : List NetModel) (net : NetModel) (wires : List Wire) → length nets ≡ 1 → net ≡ slice_index_or nets 0 net → length net.wires ≡ 0
+    → wire_count (with_more_wires nets (wires ∷ [])) ≡ length wires
 unfolding each_with
 wire_count_with [] net wires one is none = absurd (omega (arith, one))
 wire_count_with (first ∷ []) net wires one is none = omega (arith, length-append first.wires wires, rw is at none)

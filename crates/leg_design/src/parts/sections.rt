@@ -2,10 +2,10 @@
 
 ghost use Rattle.std.specs.Prelude.{◌≡◌};
 ghost use Rattle.leg_lex.specs.Words.{Reads};
-ghost use Rattle.leg_grammar.specs.Def.Parts.{known, vias_form, components_form, pins_form, blockages_form, nets_form, special_form};
+ghost use Rattle.leg_grammar.specs.Def.Parts.{net_scope, vias_form, components_form, pins_form, blockages_form, nets_form, special_form};
 
 use crate::parts::{Parts, once};
-use leg_design_common::Known;
+use leg_design_common::NetScope;
 use leg_design_floorplan::blockage::blockages;
 use leg_design_floorplan::component::components;
 use leg_design_floorplan::pin::pins;
@@ -90,7 +90,7 @@ impl<'a, A: Allocator + Copy> Parts<'a, A> {
         ensures { Reads (λ _. self.new) result words.new (nets_form self.old words.old) }
     {
         once(self.has.nets, words)?;
-        let nets = nets(alloc, &self.known(), false, &self.special, words)?;
+        let nets = nets(alloc, &self.net_scope(), false, &self.special, words)?;
         drop(replace(&mut self.nets, nets));
         self.has.nets = true;
         Ok(())
@@ -106,17 +106,17 @@ impl<'a, A: Allocator + Copy> Parts<'a, A> {
         ensures { Reads (λ _. self.new) result words.new (special_form self.old words.old) }
     {
         once(self.has.special, words)?;
-        let special = nets(alloc, &self.known(), true, &self.nets, words)?;
+        let special = nets(alloc, &self.net_scope(), true, &self.nets, words)?;
         drop(replace(&mut self.special, special));
         self.has.special = true;
         Ok(())
     }
 
     // What nets name parts of.
-    fn known<'k>(&'k self) -> Known<'k, 'a, A>
-        ensures { result ≡ known self.now.design }
+    fn net_scope<'k>(&'k self) -> NetScope<'k, 'a, A>
+        ensures { result ≡ net_scope self.now.design }
     {
-        Known {
+        NetScope {
             library: self.library,
             vias: &self.vias,
             components: &self.components,

@@ -9,20 +9,20 @@ use Rattle.leg_lex.specs.NameLookup.{place_of}
 use Rattle.leg_lib_records.specs.Records.{MasterModel}
 use Rattle.leg_design_records.specs.declared.records.Component.{Component}
 use Rattle.leg_design_records.specs.declared.records.Terminal.{Terminal}
-use Rattle.leg_grammar.specs.Def.Namespace.{KnownModel}
+use Rattle.leg_grammar.specs.Def.NetScope.{NetScopeModel}
 use Rattle.leg_grammar.specs.Def.Terminal.{pin_of_component, with_pin}
 
 abbrev pub is_in : ℕ → List ℕ → Bool
 is_in number numbers = list_any (nat_eq number) numbers
 
 -- the number of the pin of this name of the component of this number
-abbrev pub pin_of_numbered : KnownModel → ℕ → List ℕ → Option ℕ
-pin_of_numbered known c name = slice_get known.components c >>= λ component. pin_of_component known.library component name
+abbrev pub pin_of_numbered : NetScopeModel → ℕ → List ℕ → Option ℕ
+pin_of_numbered scope c name = slice_get scope.components c >>= λ component. pin_of_component scope.library component name
 
 -- the pin of this name of each of the components of these numbers that has it
-unfoldable pub pins_of_these : KnownModel → List ℕ → List ℕ → List Terminal
-pins_of_these known name [] = []
-pins_of_these known name (c ∷ numbers) = with_pin c (pin_of_numbered known c name) (pins_of_these known name numbers)
+unfoldable pub pins_of_these : NetScopeModel → List ℕ → List ℕ → List Terminal
+pins_of_these scope name [] = []
+pins_of_these scope name (c ∷ numbers) = with_pin c (pin_of_numbered scope c name) (pins_of_these scope name numbers)
 
 -- numbers under names: to each name belongs the list in the name's place
 pub record NamedNumbers : Type 0 where
@@ -68,8 +68,8 @@ AreUnder masters lists under =
     → is_some (place_of name (used_names master (get_or lists m []))) ≡ true → is_in m (under name) ≡ true
 
 -- the components of each macro, the place of each name among its pins, and the macros under each name of a pin
-pub record IsPinIndex (known : KnownModel) (lists : List (List ℕ)) (place : ℕ → List ℕ → Option ℕ) (under : List ℕ → List ℕ) : Type 0 where
-  pub long : length lists ≡ length known.library.masters
-  pub listed : AreListed known.components lists
-  pub places : ArePinPlaces known.library.masters lists place
-  pub having : AreUnder known.library.masters lists under
+pub record IsPinIndex (scope : NetScopeModel) (lists : List (List ℕ)) (place : ℕ → List ℕ → Option ℕ) (under : List ℕ → List ℕ) : Type 0 where
+  pub long : length lists ≡ length scope.library.masters
+  pub listed : AreListed scope.components lists
+  pub places : ArePinPlaces scope.library.masters lists place
+  pub having : AreUnder scope.library.masters lists under

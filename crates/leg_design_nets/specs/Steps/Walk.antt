@@ -6,7 +6,7 @@ use Rattle.leg_grammar.specs.declared.path_item.Item.{Item}
 use Rattle.leg_grammar.specs.declared.path_item.Item.TheVariants.{ToPoint, AtVia, AtRect}
 use Rattle.leg_design_records.specs.declared.records.Wire.{Wire}
 use Rattle.leg_design_records.specs.declared.records.Wire.TheVariants.{ViaAt, Patch}
-use Rattle.leg_grammar.specs.Def.Namespace.{KnownModel}
+use Rattle.leg_grammar.specs.Def.NetScope.{NetScopeModel}
 use Rattle.leg_grammar.specs.Def.Path.{next_spot, is_same_spot, extension_at, segment_to, across, wires_from}
 use Rattle.leg_grammar.specs.Def.Wiring.{path_at}
 
@@ -22,27 +22,27 @@ abbrev pub behind : List Wire → Option (List Wire) → Option (List Wire)
 behind wires = option_map (λ others. wires ++ others)
 
 -- all wires of the path, where these items follow
-abbrev pub wires_with : KnownModel → Option ℤ → Walked → List Item → Option (List Wire)
-wires_with known written walk items =
-    behind walk.wires (wires_from known written walk.layer walk.at walk.extension items)
+abbrev pub wires_with : NetScopeModel → Option ℤ → Walked → List Item → Option (List Wire)
+wires_with scope written walk items =
+    behind walk.wires (wires_from scope written walk.layer walk.at walk.extension items)
 
 -- after a step to a point with this extension
-unfoldable pub walked_to : KnownModel → Option ℤ → PointModel → Option ℤ → Walked → Option Walked
-walked_to known written to extension walk = do
-  segment ← segment_to known.library written walk.layer walk.at walk.extension to extension
+unfoldable pub walked_to : NetScopeModel → Option ℤ → PointModel → Option ℤ → Walked → Option Walked
+walked_to scope written to extension walk = do
+  segment ← segment_to scope.library written walk.layer walk.at walk.extension to extension
   Some (record { layer = walk.layer; at = to; extension = extension; wires = walk.wires ++ segment ∷ [] })
 
 -- after one more item, before these
-unfoldable pub walked_past : KnownModel → Option ℤ → Item → List Item → Walked → Option Walked
-walked_past known written (ToPoint x y given) later walk =
+unfoldable pub walked_past : NetScopeModel → Option ℤ → Item → List Item → Walked → Option Walked
+walked_past scope written (ToPoint x y given) later walk =
     if is_same_spot walk.at (next_spot walk.at x y) then Some walk
-    else walked_to known written (next_spot walk.at x y) (extension_at (next_spot walk.at x y) given later) walk
-walked_past known written (AtVia via) later walk = do
-  other ← across known via walk.layer
+    else walked_to scope written (next_spot walk.at x y) (extension_at (next_spot walk.at x y) given later) walk
+walked_past scope written (AtVia via) later walk = do
+  other ← across scope via walk.layer
   Some (record walk { layer = other; wires = walk.wires ++ ViaAt via walk.at ∷ [] })
-walked_past known written (AtRect rect) later walk =
+walked_past scope written (AtRect rect) later walk =
     Some (record walk { wires = walk.wires ++ Patch walk.layer walk.at rect ∷ [] })
 
 -- these wires and those of a path
-abbrev pub path_behind : KnownModel → Bool → List Wire → Words → Option (List Wire × Words)
-path_behind known special wires words = path_at known special words >>= λ path. Some (wires ++ path.0, path.1)
+abbrev pub path_behind : NetScopeModel → Bool → List Wire → Words → Option (List Wire × Words)
+path_behind scope special wires words = path_at scope special words >>= λ path. Some (wires ++ path.0, path.1)

@@ -8,7 +8,7 @@ use Rattle.leg_lex.specs.NameLookup.{place_of}
 use Rattle.leg_design_records.specs.declared.limits.TheConstants.{ENTRY_LIMIT, PART_LIMIT}
 use Rattle.leg_design_records.specs.declared.records.Wire.{Wire}
 use Rattle.leg_grammar.specs.Def.Guard.{unless, is_over}
-use Rattle.leg_grammar.specs.Def.Namespace.{KnownModel}
+use Rattle.leg_grammar.specs.Def.NetScope.{NetScopeModel}
 use Rattle.leg_grammar.specs.Def.Terminal.{terminal_form, at_no_terminal}
 use Rattle.leg_grammar.specs.Def.Wiring.{is_wiring, wiring_at}
 use Rattle.leg_grammar.specs.Def.Section.{section_at}
@@ -44,9 +44,9 @@ use_clause parts clause = do
   Some (record parts { usage = Some word.0 }, word.1)
 
 -- more wires
-unfoldable pub wiring_clause : KnownModel → Bool → NetParts → Words → Option (NetParts × Words)
-wiring_clause known special parts clause = do
-  wires ← wiring_at known special clause
+unfoldable pub wiring_clause : NetScopeModel → Bool → NetParts → Words → Option (NetParts × Words)
+wiring_clause scope special parts clause = do
+  wires ← wiring_at scope special clause
   Some (record parts { wires = parts.wires ++ wires.0 }, wires.1)
 
 -- the words from the next `+` on
@@ -61,17 +61,17 @@ past_clause parts clause = do
   Some (parts, from_plus word.1)
 
 -- one more clause, from the word after its `+`
-unfoldable pub clause_at : KnownModel → Bool → NetParts → Words → Option (NetParts × Words)
-clause_at known special parts clause =
+unfoldable pub clause_at : NetScopeModel → Bool → NetParts → Words → Option (NetParts × Words)
+clause_at scope special parts clause =
     if is_at (codes "USE") clause then use_clause parts clause
-    else (if is_wiring special clause then wiring_clause known special parts clause
+    else (if is_wiring special clause then wiring_clause scope special parts clause
     else (if is_left_out special clause then None else past_clause parts clause))
 
 -- one more clause (43 is the plus)
-unfoldable pub net_clause : KnownModel → Bool → NetParts → Words → Option (NetParts × Words)
-net_clause known special parts words = do
+unfoldable pub net_clause : NetScopeModel → Bool → NetParts → Words → Option (NetParts × Words)
+net_clause scope special parts words = do
   plus ← mark_at 43 words
-  clause_at known special parts plus.1
+  clause_at scope special parts plus.1
 
 -- a name that no entry of the section before has, and not MUSTJOIN
 unfoldable pub net_name_at : List NetModel → Words → Option (List ℕ × Words)
@@ -82,12 +82,12 @@ net_name_at nets words = do
 
 -- - NAME terminals clauses, where these entries of the section and those of the other section came before (45 is the
 -- dash)
-unfoldable pub net_in : KnownModel → Bool → List NetModel → List NetModel → Words → Option NetModel
-net_in known special others nets statement = do
+unfoldable pub net_in : NetScopeModel → Bool → List NetModel → List NetModel → Words → Option NetModel
+net_in scope special others nets statement = do
   dash ← mark_at 45 statement
   name ← net_name_at nets dash.1
-  terminals ← until at_no_terminal (terminal_form known special name.0 (nets ++ others)) [] name.1
-  parts ← until is_over (net_clause known special) no_net_parts terminals.1
+  terminals ← until at_no_terminal (terminal_form scope special name.0 (nets ++ others)) [] name.1
+  parts ← until is_over (net_clause scope special) no_net_parts terminals.1
   Some (record { name = name.0; usage = parts.0.usage; terminals = terminals.0; wires = parts.0.wires })
 
 -- no more terminals, and no more wires, than there may be
@@ -97,11 +97,11 @@ are_too_many others nets =
     || nat_lt PART_LIMIT (wire_count nets + wire_count others)
 
 -- one more entry
-unfoldable pub net_entry : KnownModel → Bool → List NetModel → List NetModel → Words → Option (List NetModel × Words)
-net_entry known special others nets words = do
+unfoldable pub net_entry : NetScopeModel → Bool → List NetModel → List NetModel → Words → Option (List NetModel × Words)
+net_entry scope special others nets words = do
   room ← unless (nat_le ENTRY_LIMIT (length nets + length others))
   statement ← statement_at words
-  net ← net_in known special others nets statement.0
+  net ← net_in scope special others nets statement.0
   few ← unless (are_too_many others (nets ++ net ∷ []))
   Some (nets ++ net ∷ [], statement.1)
 
@@ -109,5 +109,5 @@ abbrev pub section_word : Bool → List ℕ
 section_word special = if special then codes "SPECIALNETS" else codes "NETS"
 
 -- NETS number ; entries END NETS, or the same with SPECIALNETS, where the other section has these entries
-unfoldable pub nets_at : KnownModel → Bool → List NetModel → Words → Option (List NetModel × Words)
-nets_at known special others words = section_at (section_word special) (net_entry known special others) [] words
+unfoldable pub nets_at : NetScopeModel → Bool → List NetModel → Words → Option (List NetModel × Words)
+nets_at scope special others words = section_at (section_word special) (net_entry scope special others) [] words

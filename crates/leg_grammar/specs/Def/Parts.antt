@@ -4,7 +4,7 @@ use Rattle.leg_lex.specs.Words.{Words, ◌>>=◌}
 use Rattle.leg_geom.specs.Plane.{RectModel}
 use Rattle.leg_lib_records.specs.Records.{LibraryModel}
 use Rattle.leg_grammar.specs.Def.Guard.{when, unless}
-use Rattle.leg_grammar.specs.Def.Namespace.{KnownModel}
+use Rattle.leg_grammar.specs.Def.NetScope.{NetScopeModel}
 use Rattle.leg_grammar.specs.Def.Header.{word_after, design_name_at, units_at}
 use Rattle.leg_grammar.specs.Def.Die.{die_at}
 use Rattle.leg_grammar.specs.Def.Row.{row_at}
@@ -60,8 +60,8 @@ no_parts library = record {
 }
 
 -- what nets may name
-abbrev pub known : DesignModel → KnownModel
-known design = record { library = design.library; vias = design.vias; components = design.components; pins = design.pins }
+abbrev pub net_scope : DesignModel → NetScopeModel
+net_scope design = record { library = design.library; vias = design.vias; components = design.components; pins = design.pins }
 
 -- DIVIDERCHAR word ; once
 unfoldable pub divider_form : DesignParts → Words → Option (DesignParts × Words)
@@ -137,11 +137,11 @@ blockages_form parts words = do
 unfoldable pub nets_form : DesignParts → Words → Option (DesignParts × Words)
 nets_form parts words = do
   once ← unless parts.has.nets
-  nets ← nets_at (known parts.design) false parts.design.special words
+  nets ← nets_at (net_scope parts.design) false parts.design.special words
   Some (record { has = record (parts.has) { nets = true }; design = record (parts.design) { nets = nets.0 } }, nets.1)
 
 unfoldable pub special_form : DesignParts → Words → Option (DesignParts × Words)
 special_form parts words = do
   once ← unless parts.has.special
-  special ← nets_at (known parts.design) true parts.design.nets words
+  special ← nets_at (net_scope parts.design) true parts.design.nets words
   Some (record { has = record (parts.has) { special = true }; design = record (parts.design) { special = special.0 } }, special.1)

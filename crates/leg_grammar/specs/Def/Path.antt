@@ -14,7 +14,7 @@ use Rattle.leg_design_records.specs.declared.records.Wire.TheVariants.{Segment, 
 use Rattle.leg_grammar.specs.Def.Guard.{when, unless}
 use Rattle.leg_design_records.specs.Layers.{width_of_layer, is_routing}
 use Rattle.leg_design_records.specs.Wires.{is_straight, default_extension}
-use Rattle.leg_grammar.specs.Def.Namespace.{KnownModel, via_numbered}
+use Rattle.leg_grammar.specs.Def.NetScope.{NetScopeModel, via_numbered}
 
 -- An item of a path leads to a point, of which a coordinate that isn't written is that of the point before, with an
 -- extension where one is written; or it is a via, by its number; or a rectangle about the point.
@@ -61,32 +61,32 @@ other_layer library layer shapes =
     find (λ shape. is_routing library shape.layer && not (shape.layer == layer)) shapes >>= λ shape. Some shape.layer
 
 -- A good via that has a shape on the path's layer leads to its other routing layer.
-unfoldable pub across : KnownModel → ℕ → ℕ → Option ℕ
-across known number layer = do
-  via ← via_numbered known number
+unfoldable pub across : NetScopeModel → ℕ → ℕ → Option ℕ
+across scope number layer = do
+  via ← via_numbered scope number
   good ← when via.good
   meets ← when (list_any (λ shape. shape.layer == layer) via.shapes)
-  other_layer known.library layer via.shapes
+  other_layer scope.library layer via.shapes
 
 -- The wires of a path, in order, from a point with its extension, on this layer. A step to another point is a segment;
 -- the same point again is none.
-unfoldable pub wires_from : KnownModel → Option ℤ → ℕ → PointModel → Option ℤ → List Item → Option (List Wire)
-wires_from known written layer at extension [] = Some []
-wires_from known written layer at extension (ToPoint x y given ∷ items) =
-    if is_same_spot at (next_spot at x y) then wires_from known written layer at extension items
+unfoldable pub wires_from : NetScopeModel → Option ℤ → ℕ → PointModel → Option ℤ → List Item → Option (List Wire)
+wires_from scope written layer at extension [] = Some []
+wires_from scope written layer at extension (ToPoint x y given ∷ items) =
+    if is_same_spot at (next_spot at x y) then wires_from scope written layer at extension items
     else (do
-      segment ← segment_to known.library written layer at extension (next_spot at x y) (extension_at (next_spot at x y) given items)
-      others ← wires_from known written layer (next_spot at x y) (extension_at (next_spot at x y) given items) items
+      segment ← segment_to scope.library written layer at extension (next_spot at x y) (extension_at (next_spot at x y) given items)
+      others ← wires_from scope written layer (next_spot at x y) (extension_at (next_spot at x y) given items) items
       Some (segment ∷ others))
-wires_from known written layer at extension (AtVia via ∷ items) = do
-  other ← across known via layer
-  others ← wires_from known written other at extension items
+wires_from scope written layer at extension (AtVia via ∷ items) = do
+  other ← across scope via layer
+  others ← wires_from scope written other at extension items
   Some (ViaAt via at ∷ others)
-wires_from known written layer at extension (AtRect rect ∷ items) = do
-  others ← wires_from known written layer at extension items
+wires_from scope written layer at extension (AtRect rect ∷ items) = do
+  others ← wires_from scope written layer at extension items
   Some (Patch layer at rect ∷ others)
 
 -- a path from its first point, with the extension that is given there
-abbrev pub path_wires : KnownModel → Option ℤ → ℕ → PointModel → Option ℤ → List Item → Option (List Wire)
-path_wires known written layer first given items =
-    wires_from known written layer first (extension_at first given items) items
+abbrev pub path_wires : NetScopeModel → Option ℤ → ℕ → PointModel → Option ℤ → List Item → Option (List Wire)
+path_wires scope written layer first given items =
+    wires_from scope written layer first (extension_at first given items) items

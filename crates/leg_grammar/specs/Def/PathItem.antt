@@ -8,7 +8,7 @@ use Rattle.leg_lib_records.specs.Measure.{rect_between}
 use Rattle.leg_grammar.specs.declared.path_item.Item.{Item}
 use Rattle.leg_grammar.specs.declared.path_item.Item.TheVariants.{ToPoint, AtVia, AtRect}
 use Rattle.leg_grammar.specs.Def.Guard.{unless}
-use Rattle.leg_grammar.specs.Def.Namespace.{KnownModel, via_named}
+use Rattle.leg_grammar.specs.Def.NetScope.{NetScopeModel, via_named}
 
 -- a number of at least 0
 unfoldable pub count_at : Words → Option (ℤ × Words)
@@ -67,24 +67,24 @@ unfoldable pub past_north : Words → Option (Unit {0} × Words)
 past_north words = if is_at (codes "N") words then keyword_at (codes "N") words else Some (tt, words)
 
 -- the name of a via
-unfoldable pub via_item : KnownModel → Words → Option (Item × Words)
-via_item known words = do
+unfoldable pub via_item : NetScopeModel → Words → Option (Item × Words)
+via_item scope words = do
   name ← name_at words
   other ← unless (is_wiring_word name.0)
-  via ← via_named known name.0
+  via ← via_named scope name.0
   north ← past_north name.1
   Some (AtVia via, north.1)
 
 -- an item of a path; rectangles are in NETS only
-unfoldable pub item_at : KnownModel → Bool → Words → Option (Item × Words)
-item_at known special words =
+unfoldable pub item_at : NetScopeModel → Bool → Words → Option (Item × Words)
+item_at scope special words =
     if is_at (codes "(") words then point_item words
-    else (if is_at (codes "RECT") words && not special then rect_item words else via_item known words)
+    else (if is_at (codes "RECT") words && not special then rect_item words else via_item scope words)
 
 -- one more item
-unfoldable pub one_item : KnownModel → Bool → List Item → Words → Option (List Item × Words)
-one_item known special items words = do
-  item ← item_at known special words
+unfoldable pub one_item : NetScopeModel → Bool → List Item → Words → Option (List Item × Words)
+one_item scope special items words = do
+  item ← item_at scope special words
   Some (items ++ item.0 ∷ [], item.1)
 
 -- where the items of a path end: at NEW, at the `+` of another clause, or with the entry

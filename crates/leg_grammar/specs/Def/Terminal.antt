@@ -11,7 +11,7 @@ use Rattle.leg_design_records.specs.declared.records.Component.{Component}
 use Rattle.leg_design_records.specs.declared.records.Terminal.{Terminal}
 use Rattle.leg_design_records.specs.declared.records.Terminal.TheVariants.{Comp, Pin}
 use Rattle.leg_design_records.specs.Terminals.{is_among}
-use Rattle.leg_grammar.specs.Def.Namespace.{KnownModel}
+use Rattle.leg_grammar.specs.Def.NetScope.{NetScopeModel}
 use Rattle.leg_design_records.specs.Records.{NetModel, component_names, pin_names}
 
 -- the number of the pin of this name of the component's macro
@@ -31,32 +31,32 @@ pins_of_all library name c (component ∷ components) =
     with_pin c (pin_of_component library component name) (pins_of_all library name (suc c) components)
 
 -- the component of this name, with its pin of this name
-abbrev pub component_terminal : KnownModel → List ℕ → List ℕ → Option Terminal
-component_terminal known of_component name = do
-  c ← place_of of_component (component_names known.components)
-  component ← slice_get known.components c
-  k ← pin_of_component known.library component name
+abbrev pub component_terminal : NetScopeModel → List ℕ → List ℕ → Option Terminal
+component_terminal scope of_component name = do
+  c ← place_of of_component (component_names scope.components)
+  component ← slice_get scope.components c
+  k ← pin_of_component scope.library component name
   Some (Comp c k)
 
 -- the pin of the design of this name
-abbrev pub pin_terminal : KnownModel → List ℕ → Option Terminal
-pin_terminal known name = place_of name (pin_names known.pins) >>= λ p. Some (Pin p)
+abbrev pub pin_terminal : NetScopeModel → List ℕ → Option Terminal
+pin_terminal scope name = place_of name (pin_names scope.pins) >>= λ p. Some (Pin p)
 
 -- NAME NAME, where PIN marks a pin of the design
-unfoldable pub one_terminal_at : KnownModel → Words → Option (List Terminal × Words)
-one_terminal_at known words = do
+unfoldable pub one_terminal_at : NetScopeModel → Words → Option (List Terminal × Words)
+one_terminal_at scope words = do
   of_component ← name_at words
   name ← name_at of_component.1
-  terminal ← if is_keyword (codes "PIN") of_component.0 then pin_terminal known name.0
-      else component_terminal known of_component.0 name.0
+  terminal ← if is_keyword (codes "PIN") of_component.0 then pin_terminal scope name.0
+      else component_terminal scope of_component.0 name.0
   Some (terminal ∷ [], name.1)
 
 -- * NAME: the pins of this name of all components
-unfoldable pub all_terminals_at : KnownModel → Words → Option (List Terminal × Words)
-all_terminals_at known words = do
+unfoldable pub all_terminals_at : NetScopeModel → Words → Option (List Terminal × Words)
+all_terminals_at scope words = do
   star ← mark_at 42 words
   name ← name_at star.1
-  Some (pins_of_all known.library name.0 0 known.components, name.1)
+  Some (pins_of_all scope.library name.0 0 scope.components, name.1)
 
 -- + SYNTHESIZED, if it is written (43 is the plus)
 unfoldable pub past_synthesized : Words → Option (Unit {0} × Words)
@@ -67,11 +67,11 @@ past_synthesized words =
     else Some (tt, words)
 
 -- ( component pin ), where `*` stands for all components in SPECIALNETS only: 40 and 41 are the parentheses
-unfoldable pub terminals_at : KnownModel → Bool → Words → Option (List Terminal × Words)
-terminals_at known special words = do
+unfoldable pub terminals_at : NetScopeModel → Bool → Words → Option (List Terminal × Words)
+terminals_at scope special words = do
   open_ ← mark_at 40 words
-  terminals ← if special && is_at (codes "*") open_.1 then all_terminals_at known open_.1
-      else one_terminal_at known open_.1
+  terminals ← if special && is_at (codes "*") open_.1 then all_terminals_at scope open_.1
+      else one_terminal_at scope open_.1
   past ← past_synthesized terminals.1
   close ← mark_at 41 past.1
   Some (terminals.0, close.1)
@@ -89,9 +89,9 @@ add_terminal name nets terminals terminal =
     else (if is_among terminal terminals then Some terminals else Some (terminals ++ terminal ∷ []))
 
 -- what one more pair of parentheses adds to the terminals
-unfoldable pub terminal_form : KnownModel → Bool → List ℕ → List NetModel → List Terminal → Words → Option (List Terminal × Words)
-terminal_form known special name nets terminals words = do
-  said ← terminals_at known special words
+unfoldable pub terminal_form : NetScopeModel → Bool → List ℕ → List NetModel → List Terminal → Words → Option (List Terminal × Words)
+terminal_form scope special name nets terminals words = do
+  said ← terminals_at scope special words
   more ← over (add_terminal name nets) terminals said.0
   Some (more, said.1)
 

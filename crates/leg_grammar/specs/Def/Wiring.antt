@@ -9,7 +9,7 @@ use Rattle.leg_design_records.specs.declared.records.Wire.{Wire}
 use Rattle.leg_grammar.specs.Def.Guard.{when}
 use Rattle.leg_design_records.specs.Layers.{is_routing}
 use Rattle.leg_design_records.specs.Wires.{is_even}
-use Rattle.leg_grammar.specs.Def.Namespace.{KnownModel}
+use Rattle.leg_grammar.specs.Def.NetScope.{NetScopeModel}
 use Rattle.leg_grammar.specs.Def.Path.{path_wires}
 use Rattle.leg_grammar.specs.Def.PathItem.{count_at, first_point_at, one_item, at_path_end}
 
@@ -53,30 +53,30 @@ written_at special words =
     else (past_taper words >>= λ taper. Some (None, taper.1))
 
 -- a path, from its layer to its last item
-unfoldable pub path_at : KnownModel → Bool → Words → Option (List Wire × Words)
-path_at known special words = do
-  layer ← routing_at known.library words
+unfoldable pub path_at : NetScopeModel → Bool → Words → Option (List Wire × Words)
+path_at scope special words = do
+  layer ← routing_at scope.library words
   written ← written_at special layer.1
   first ← first_point_at written.1
-  items ← until at_path_end (one_item known special) [] first.1
-  wires ← path_wires known written.0 layer.0 first.0.0 first.0.1 items.0
+  items ← until at_path_end (one_item scope special) [] first.1
+  wires ← path_wires scope written.0 layer.0 first.0.0 first.0.1 items.0
   Some (wires, items.1)
 
 abbrev pub at_no_new : Words → Bool
 at_no_new words = not (is_at (codes "NEW") words)
 
 -- NEW and one more path
-unfoldable pub new_path : KnownModel → Bool → List Wire → Words → Option (List Wire × Words)
-new_path known special wires words = do
+unfoldable pub new_path : NetScopeModel → Bool → List Wire → Words → Option (List Wire × Words)
+new_path scope special wires words = do
   start ← keyword_at (codes "NEW") words
-  path ← path_at known special start.1
+  path ← path_at scope special start.1
   Some (wires ++ path.0, path.1)
 
 -- paths, joined by NEW
-unfoldable pub paths_at : KnownModel → Bool → Words → Option (List Wire × Words)
-paths_at known special words = do
-  first ← path_at known special words
-  until at_no_new (new_path known special) first.0 first.1
+unfoldable pub paths_at : NetScopeModel → Bool → Words → Option (List Wire × Words)
+paths_at scope special words = do
+  first ← path_at scope special words
+  until at_no_new (new_path scope special) first.0 first.1
 
 -- whether a clause contains wiring: ROUTED, FIXED or COVER; NOSHIELD in NETS, and SHIELD in SPECIALNETS
 abbrev pub is_wiring : Bool → Words → Bool
@@ -94,7 +94,7 @@ wiring_start clause =
     else (next_at clause >>= λ start. Some (tt, start.1))
 
 -- ROUTED and the like, and paths
-unfoldable pub wiring_at : KnownModel → Bool → Words → Option (List Wire × Words)
-wiring_at known special clause = do
+unfoldable pub wiring_at : NetScopeModel → Bool → Words → Option (List Wire × Words)
+wiring_at scope special clause = do
   start ← wiring_start clause
-  paths_at known special start.1
+  paths_at scope special start.1

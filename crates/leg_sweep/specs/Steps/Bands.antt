@@ -1,7 +1,7 @@
 -- Bands, in which items wait for later ones. Items and bands go by their numbers.
 use Rattle.std.specs.Prelude.{◌≡◌, ℕ, zero, suc, ◌+◌, ◌-◌, ◌≤◌, ◌<◌, Bool, true, ◌&&◌, nat_le, List, [], ◌∷◌, ◌++◌, length, filter, sum_by, slice_index, slice_index_or, Contains}
 use Rattle.leg_geom.specs.Plane.{RectModel}
-use Rattle.leg_sweep.specs.declared.band.Stretch.{Stretch}
+use Rattle.leg_sweep.specs.declared.band.BandRange.{BandRange}
 use Rattle.leg_geom.specs.Pairs.{IsPair}
 use Rattle.leg_sweep.specs.Counts.{near_along_x, near_along_both}
 use Rattle.leg_sweep.specs.Steps.Sweep.{test_at, AreInReach, CanMeet}
@@ -22,41 +22,41 @@ waiting_at bands k = slice_index_or bands k (empty_band 0)
 abbrev pub AreEmpty : List Waiting → Type 0
 AreEmpty bands = (k : ℕ) → waiting_at bands k ≡ empty_band (waiting_at bands k).reach
 
-abbrev pub stretch_at : List Stretch → ℕ → Stretch
-stretch_at stretches x = slice_index_or stretches x (record { first = 0; last = 0 })
+abbrev pub range_at : List BandRange → ℕ → BandRange
+range_at ranges x = slice_index_or ranges x (record { first = 0; last = 0 })
 
 -- in how many bands an item is
-abbrev pub entries_at : List Stretch → ℕ → ℕ
-entries_at stretches x = (stretch_at stretches x).last + 1 - (stretch_at stretches x).first
+abbrev pub entries_at : List BandRange → ℕ → ℕ
+entries_at ranges x = (range_at ranges x).last + 1 - (range_at ranges x).first
 
 -- two items are in a common band
-abbrev pub share_band : List Stretch → ℕ → ℕ → Bool
-share_band stretches x y =
-    nat_le (stretch_at stretches x).first (stretch_at stretches y).last && nat_le (stretch_at stretches y).first (stretch_at stretches x).last
+abbrev pub share_band : List BandRange → ℕ → ℕ → Bool
+share_band ranges x y =
+    nat_le (range_at ranges x).first (range_at ranges y).last && nat_le (range_at ranges y).first (range_at ranges x).last
 
 -- the reach of the bands of an item
-abbrev pub reach_at : List Stretch → List Waiting → ℕ → ℕ
-reach_at stretches bands x = (waiting_at bands (stretch_at stretches x).first).reach
+abbrev pub reach_at : List BandRange → List Waiting → ℕ → ℕ
+reach_at ranges bands x = (waiting_at bands (range_at ranges x).first).reach
 
 -- two items are in a common band, and their x gap is within its reach
-abbrev pub near_in_band : List RectModel → List Stretch → List Waiting → ℕ → ℕ → Bool
-near_in_band rects stretches bands x y = share_band stretches x y && test_at (near_along_x (reach_at stretches bands x)) rects x y
+abbrev pub near_in_band : List RectModel → List BandRange → List Waiting → ℕ → ℕ → Bool
+near_in_band rects ranges bands x y = share_band ranges x y && test_at (near_along_x (reach_at ranges bands x)) rects x y
 
 -- two items are in a common band, and both gaps are within its reach
-abbrev pub near_both_in_band : List RectModel → List Stretch → List Waiting → ℕ → ℕ → Bool
-near_both_in_band rects stretches bands x y = share_band stretches x y && test_at (near_along_both (reach_at stretches bands x)) rects x y
+abbrev pub near_both_in_band : List RectModel → List BandRange → List Waiting → ℕ → ℕ → Bool
+near_both_in_band rects ranges bands x y = share_band ranges x y && test_at (near_along_both (reach_at ranges bands x)) rects x y
 
 -- Each item is in bands of one reach. Two items for which the rule holds are in a common band, whose reach both gaps are within.
-pub record AreStretches {Item : Type 0} (Holds : Item → Item → Type 0) (rect_of : Item → RectModel) (items : List Item) (stretches : List Stretch)
+pub record AreBandRanges {Item : Type 0} (Holds : Item → Item → Type 0) (rect_of : Item → RectModel) (items : List Item) (ranges : List BandRange)
     (bands : List Waiting) : Type 0 where
-  pub count : length stretches ≡ length items
-  pub upward : (x : ℕ) → x < length items → (stretch_at stretches x).first ≤ (stretch_at stretches x).last
-  pub there : (x : ℕ) → x < length items → (stretch_at stretches x).last < length bands
-  pub one_reach : (x k : ℕ) → x < length items → (stretch_at stretches x).first ≤ k → k ≤ (stretch_at stretches x).last
-      → (waiting_at bands k).reach ≡ reach_at stretches bands x
-  pub meet : (p : ℕ × ℕ) → IsPair Holds items p → ((stretch_at stretches p.0).first ≤ (stretch_at stretches p.1).last)
-      × ((stretch_at stretches p.1).first ≤ (stretch_at stretches p.0).last)
-  pub in_reach : (x y : ℕ) → AreInReach Holds rect_of items (reach_at stretches bands x) x y
+  pub count : length ranges ≡ length items
+  pub upward : (x : ℕ) → x < length items → (range_at ranges x).first ≤ (range_at ranges x).last
+  pub there : (x : ℕ) → x < length items → (range_at ranges x).last < length bands
+  pub one_reach : (x k : ℕ) → x < length items → (range_at ranges x).first ≤ k → k ≤ (range_at ranges x).last
+      → (waiting_at bands k).reach ≡ reach_at ranges bands x
+  pub meet : (p : ℕ × ℕ) → IsPair Holds items p → ((range_at ranges p.0).first ≤ (range_at ranges p.1).last)
+      × ((range_at ranges p.1).first ≤ (range_at ranges p.0).last)
+  pub in_reach : (x y : ℕ) → AreInReach Holds rect_of items (reach_at ranges bands x) x y
 
 -- what waits in a band after a new item began there
 abbrev pub after_begin : (ℕ → Bool) → ℕ → Waiting → Waiting
@@ -95,6 +95,6 @@ pub record CanVisit {Item : Type 0} (Holds : Item → Item → Type 0) (rect_of 
   pub apart_passing : (k x : ℕ) → first ≤ k → k ≤ last → Contains (waiting_at bands k).begun x → Contains (waiting_at bands first).passing x → ⊥
 
 -- Items that are in a common band lie on one layer, whose reach the bands have.
-pub record AreByLayer (layers : List ℕ) (reach_of : ℕ → ℕ) (stretches : List Stretch) (bands : List Waiting) : Type 0 where
-  pub apart : (x y : ℕ) → x < length layers → y < length layers → share_band stretches x y ≡ true → slice_index layers x ≡ slice_index layers y
-  pub reach : (x : ℕ) → x < length layers → reach_at stretches bands x ≡ reach_of (slice_index layers x)
+pub record AreByLayer (layers : List ℕ) (reach_of : ℕ → ℕ) (ranges : List BandRange) (bands : List Waiting) : Type 0 where
+  pub apart : (x y : ℕ) → x < length layers → y < length layers → share_band ranges x y ≡ true → slice_index layers x ≡ slice_index layers y
+  pub reach : (x : ℕ) → x < length layers → reach_at ranges bands x ≡ reach_of (slice_index layers x)

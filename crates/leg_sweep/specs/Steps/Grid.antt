@@ -2,7 +2,7 @@
 use Rattle.std.specs.Prelude.{◌≡◌, ℕ, ◌+◌, ◌-◌, ◌*◌, ◌/◌, ◌^◌, ◌≤◌, ◌<◌, ◌==◌, min, max, ℤ, pos, ◌+ℤ◌, unsigned_abs, List, length, take, count_by, sum_by, slice_index_or, All, if◌then◌else◌}
 use Rattle.leg_geom.specs.declared.limits.TheConstants.{COORDINATE_LIMIT}
 use Rattle.leg_geom.specs.Plane.{RectModel, IsRect}
-use Rattle.leg_sweep.specs.declared.band.Stretch.{Stretch}
+use Rattle.leg_sweep.specs.declared.band.BandRange.{BandRange}
 use Rattle.leg_sweep.specs.declared.grid.LayerSpan.{LayerSpan}
 use Rattle.leg_sweep.specs.declared.grid.LayerBands.{LayerBands}
 use Rattle.leg_sweep.specs.Steps.Bands.{Waiting, empty_band, waiting_at, AreEmpty}
@@ -84,8 +84,8 @@ pub record BeginsIn (bands : LayerBands) (rect : RectModel) : Type 0 where
   pub numbers : bands.first + bands.count < 2 ^ 32
 
 -- from the band of the bottom edge to that of what lies the reach above the top edge, or to the topmost
-abbrev pub stretch_in : LayerBands → RectModel → Stretch
-stretch_in bands rect = record {
+abbrev pub range_in : LayerBands → RectModel → BandRange
+range_in bands rect = record {
   first = bands.first + (height_of rect.y1 - bands.low) / bands.height;
   last = bands.first + min ((height_of rect.y2 + bands.reach - bands.low) / bands.height) (bands.count - 1);
 }

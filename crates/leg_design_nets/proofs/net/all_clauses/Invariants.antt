@@ -6,7 +6,7 @@ use Rattle.leg_design_nets.proofs.net.all_clauses.Given as goal
 
 abbrev pub invariant-clauses : goal.invariant-clauses
 invariant-clauses g l =
-    until is_over (net_clause l.known l.special) l.parts l.words ≡ until is_over (net_clause l.known l.special) no_net_parts l.initial.words
+    until is_over (net_clause l.scope l.special) l.parts l.words ≡ until is_over (net_clause l.scope l.special) no_net_parts l.initial.words
 
 abbrev pub decreases-clauses : goal.decreases-clauses
 decreases-clauses g l = length l.words

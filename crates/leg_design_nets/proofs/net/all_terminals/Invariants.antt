@@ -5,8 +5,8 @@ use Rattle.leg_design_nets.proofs.net.all_terminals.Given as goal
 
 abbrev pub invariant-terminals : goal.invariant-terminals
 invariant-terminals g l = record {
-  said : until at_no_terminal (terminal_form l.known l.special l.name (l.initial.table.nets ++ l.others)) l.table.terminals l.words ≡ until at_no_terminal
-      (terminal_form l.known l.special l.name (l.initial.table.nets ++ l.others)) l.initial.table.terminals l.initial.words;
+  said : until at_no_terminal (terminal_form l.scope l.special l.name (l.initial.table.nets ++ l.others)) l.table.terminals l.words ≡ until at_no_terminal
+      (terminal_form l.scope l.special l.name (l.initial.table.nets ++ l.others)) l.initial.table.terminals l.initial.words;
   kept : l.table.nets ≡ l.initial.table.nets;
 }
 

@@ -6,7 +6,7 @@ use Rattle.leg_design_nets.proofs.net.entries.Given as goal
 
 abbrev pub invariant-entries : goal.invariant-entries
 invariant-entries g l = record {
-  said : until at_end (net_entry l.known l.special l.others) l.table.nets l.words ≡ until at_end (net_entry l.known l.special l.others) [] l.initial.words;
+  said : until at_end (net_entry l.scope l.special l.others) l.table.nets l.words ≡ until at_end (net_entry l.scope l.special l.others) [] l.initial.words;
   closed : l.table.terminals ≡ [];
 }
 

@@ -5,7 +5,7 @@ use Rattle.leg_design_nets.proofs.wiring.new_paths.Given as goal
 
 abbrev pub invariant-paths : goal.invariant-paths
 invariant-paths g l =
-    until at_no_new (new_path l.known l.special) l.wires.items l.words ≡ until at_no_new (new_path l.known l.special) l.initial.wires.items l.initial.words
+    until at_no_new (new_path l.scope l.special) l.wires.items l.words ≡ until at_no_new (new_path l.scope l.special) l.initial.wires.items l.initial.words
 
 abbrev pub decreases-paths : goal.decreases-paths
 decreases-paths g l = length l.words

@@ -10,18 +10,18 @@ use Rattle.leg_sweep.proofs.Nearness.{near_along_x_symmetric, near_along_both_sy
 use Rattle.leg_sweep.proofs.OnLayers.{on_layers}
 use Rattle.leg_sweep.proofs.banded.search.Goals as goal
 
-pub sweep-requires-clause-stretches : goal.sweep-requires-clause-stretches
-sweep-requires-clause-stretches g c = rw (c.are_crowded.ensures.same, c.deref-3.ensures.value, c.deref_mut.ensures.value) c.in_ok-stretches.ensures.stretches
+pub sweep-requires-clause-ranges : goal.sweep-requires-clause-ranges
+sweep-requires-clause-ranges g c = rw (c.are_crowded.ensures.same, c.deref-3.ensures.value, c.deref_mut.ensures.value) c.in_ok-ranges.ensures.ranges
 
 pub sweep-requires-clause-entries : goal.sweep-requires-clause-entries
 sweep-requires-clause-entries g c =
     let rect_of = g.R.PairRule.rect_of (g.R.PairRule.fixed c.args.rule.now) in
     let items = c.args.items.now in
     let order = c.in_ok-order.order.items in
-    let stretches = c.in_ok-stretches.stretches.items in
+    let ranges = c.in_ok-ranges.ranges.items in
     let moved =
-    sum_by-IsPermutation (entries_at stretches) (range_with_len 0 (length items)) order (rw (length-map items rect_of) at c.in_ok-order.ensures.numbers) in
-    let few : sum_by (entries_at stretches) order < 2 ^ 62 = omega (arith, moved, c.in_ok-stretches.ensures.entries, c.requires.few) in
+    sum_by-IsPermutation (entries_at ranges) (range_with_len 0 (length items)) order (rw (length-map items rect_of) at c.in_ok-order.ensures.numbers) in
+    let few : sum_by (entries_at ranges) order < 2 ^ 62 = omega (arith, moved, c.in_ok-ranges.ensures.entries, c.requires.few) in
     rw (c.deref-3.ensures.value, c.deref-2.ensures.value) few
 
 pub returns-clause-few_tests : goal.returns-clause-few_tests
@@ -37,7 +37,7 @@ returns-clause-few_tests g c =
     rw (c.are_crowded.ensures.same, c.deref-3.ensures.value, c.deref_mut.ensures.value, c.deref-2.ensures.value) at c.in_ok-sweep.ensures.few_tests in
     let fewer =
     on_layers near_along_both (layered.layer_reach_of fixed) (rule.rect_of fixed) (layered.layer_of fixed) items (near_along_both_symmetric rects sorted.proper)
-    c.in_ok-stretches.stretches.items c.in_ok-stretches.bands.items order sorted c.in_ok-stretches.ensures.layers in
+    c.in_ok-ranges.ranges.items c.in_ok-ranges.bands.items order sorted c.in_ok-ranges.ensures.layers in
     omega (arith, tests, fewer)
 
 pub returns-clause-few_looks : goal.returns-clause-few_looks
@@ -49,18 +49,18 @@ returns-clause-few_looks g c =
     let rects = map (rule.rect_of fixed) items in
     let order = c.in_ok-order.order.items in
     let sorted = c.in_ok-order.ensures in
-    let stretches = c.in_ok-stretches.stretches.items in
+    let ranges = c.in_ok-ranges.ranges.items in
     let looks =
     rw (c.are_crowded.ensures.same, c.deref-3.ensures.value, c.deref_mut.ensures.value, c.deref-2.ensures.value) at c.in_ok-sweep.ensures.few_looks in
     let moved =
-    sum_by-IsPermutation (entries_at stretches) (range_with_len 0 (length items)) order (rw (length-map items (rule.rect_of fixed)) at sorted.numbers) in
+    sum_by-IsPermutation (entries_at ranges) (range_with_len 0 (length items)) order (rw (length-map items (rule.rect_of fixed)) at sorted.numbers) in
     let fewer =
     on_layers near_along_x (layered.layer_reach_of fixed) (rule.rect_of fixed) (layered.layer_of fixed) items (near_along_x_symmetric rects sorted.proper)
-    stretches c.in_ok-stretches.bands.items order sorted c.in_ok-stretches.ensures.layers in
-    omega (arith, looks, c.are_crowded.ensures.looks, fewer, moved, c.in_ok-stretches.ensures.entries)
+    ranges c.in_ok-ranges.bands.items order sorted c.in_ok-ranges.ensures.layers in
+    omega (arith, looks, c.are_crowded.ensures.looks, fewer, moved, c.in_ok-ranges.ensures.entries)
 
 pub sweep-requires-clause-empty : goal.sweep-requires-clause-empty
-sweep-requires-clause-empty g c = rw c.deref_mut.ensures.value c.in_ok-stretches.ensures.empty
+sweep-requires-clause-empty g c = rw c.deref_mut.ensures.value c.in_ok-ranges.ensures.empty
 
 pub sweep-requires-clause-order : goal.sweep-requires-clause-order
 sweep-requires-clause-order g c = rw (c.are_crowded.ensures.same, c.deref-2.ensures.value) c.in_ok-order.ensures

@@ -20,8 +20,8 @@ unwrap-requires g c =
     let x2 : c.max-right.result ≡ (cut_at line rect).x2 =
     let gap : c.gaps-gap.result.0 ≡ pos (x_gap rect other) = c.gaps-gap.ensures.x in
     let edge = rw c.gaps-gap.ensures.same at c.left.ensures.is in
-    edge_told c.max-right.result c.left-left.result c.left.result c.gaps-gap.result.0 rect other x1 edge gap is other_is c.requires.right
-    c.max-right.ensures.value in
+    edge_told c.max-right.result c.left-left.result c.left.result c.gaps-gap.result.0 rect other
+    (record { left_is = x1; edge_is = edge; gap_is = gap; proper = is; other_proper = other_is; order = c.requires.right }) c.max-right.ensures.value in
     sides_made c.new.result _ _ _ _ (cut_at line rect) (coordinate_kept _ rect.x1 x1 is.x1) (coordinate_kept _ rect.y1 y1 is.y1)
     (coordinate_kept _ _ x2 cut_is.x2)
     (coordinate_kept _ rect.y2 y2 is.y2) cut_is c.new.ensures
@@ -41,8 +41,8 @@ returns-clause-cut g c =
     let x2 : c.max-right.result ≡ (cut_at line rect).x2 =
     let gap : c.gaps-gap.result.0 ≡ pos (x_gap rect other) = c.gaps-gap.ensures.x in
     let edge = rw c.gaps-gap.ensures.same at c.left.ensures.is in
-    edge_told c.max-right.result c.left-left.result c.left.result c.gaps-gap.result.0 rect other x1 edge gap is other_is c.requires.right
-    c.max-right.ensures.value in
+    edge_told c.max-right.result c.left-left.result c.left.result c.gaps-gap.result.0 rect other
+    (record { left_is = x1; edge_is = edge; gap_is = gap; proper = is; other_proper = other_is; order = c.requires.right }) c.max-right.ensures.value in
     sides_are c.new.result _ _ _ _ (cut_at line rect) c.unwrap.result (coordinate_kept _ rect.x1 x1 is.x1) (coordinate_kept _ rect.y1 y1 is.y1)
     (coordinate_kept _ _ x2 cut_is.x2)
     (coordinate_kept _ rect.y2 y2 is.y2) c.new.ensures c.unwrap.ensures

@@ -3,10 +3,11 @@ use Rattle.std.specs.List.{range_with_len}
 use Rattle.std.proofs.lemmas.Bool.{both_ways}
 use Rattle.std.proofs.lemmas.List.Sums.{sum_by_more}
 use Rattle.std.proofs.lemmas.Option.{slice_get_read}
+use Rattle.leg_lemmas.proofs.Ranges.{range_more}
 use Rattle.leg_geom.specs.Pairs.{IsPair}
 use Rattle.leg_sweep.specs.Counts.{near_along_both, near_on_layer}
 use Rattle.leg_sweep.specs.Steps.Sweep.{ordered}
-use Rattle.leg_sweep.proofs.FewPairs.{numbers_more, number_below, pairs_more, cond_both, cond_once}
+use Rattle.leg_sweep.proofs.FewPairs.{number_below, pairs_more, cond_both, cond_once}
 use Rattle.leg_sweep.proofs.Turns.{ordered_below, new_pairs_none, new_pairs_skip, new_pairs_more, pair_from_holds, holds_from_pair}
 use Rattle.leg_sweep.proofs.few.meet_earlier.Goals as goal
 use Rattle.leg_sweep.proofs.few.meet_earlier.Goals.{then-ask_on_layer+in_ok-take, else-ask_on_layer}
@@ -54,7 +55,7 @@ loop-other-preserved g c =
     cond_both (layered.layer_of fixed a == layered.layer_of fixed b)
     (near_along_both (layered.layer_reach_of fixed (layered.layer_of fixed a)) (rule.rect_of fixed a) (rule.rect_of fixed b)) in
     let one_more = rw (← c.index-items-other.is) at (sum_by_more (λ x. cond (near x b) 1 0) items i a within) in
-    let grown = numbers_more i in
+    let grown = range_more 0 i i (omega arith) in
     record {
       found = elim c.if-ask_on_layer.branch [
         | then-ask_on_layer+in_ok-take w ↦

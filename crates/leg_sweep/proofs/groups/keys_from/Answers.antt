@@ -1,7 +1,7 @@
 -- One more number.
 use Rattle.std.proofs.Common.{◌≡◌, ℕ, ◌+◌, ◌-◌, ◌++◌, ◌∷◌, [], refl, arith, rules}
 use Rattle.std.proofs.lemmas.List.{map-append}
-use Rattle.leg_sweep.proofs.NodeGroups.{range_more}
+use Rattle.leg_lemmas.proofs.Ranges.{range_more}
 use Rattle.leg_sweep.proofs.groups.keys_from.Goals as goal
 
 pub loop-number-preserved : goal.loop-number-preserved

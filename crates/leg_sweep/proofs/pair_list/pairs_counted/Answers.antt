@@ -2,17 +2,17 @@ use Rattle.std.proofs.Common.{◌≡◌, ℕ, ◌<◌, ◌≤◌, ◌^◌, lengt
 use Rattle.std.proofs.lemmas.List.{length-map}
 use Rattle.leg_sweep.specs.Steps.Bands.{entries_at}
 use Rattle.leg_sweep.proofs.Apart.{pairs_from_sort}
-use Rattle.leg_sweep.proofs.OneBand.{lowest, one_stretch, one_empty, one_entry, one_near, one_near_both}
+use Rattle.leg_sweep.proofs.OneBand.{lowest, one_range, one_empty, one_entry, one_near, one_near_both}
 use Rattle.leg_sweep.proofs.Places.{length_order, near_in_order, both_in_order}
 use Rattle.leg_sweep.proofs.SinkPairs.{takes_listed}
 use Rattle.leg_sweep.proofs.pair_list.pairs_counted.Goals as goal
 
-pub sweep-requires-clause-stretches : goal.sweep-requires-clause-stretches
-sweep-requires-clause-stretches g c =
+pub sweep-requires-clause-ranges : goal.sweep-requires-clause-ranges
+sweep-requires-clause-ranges g c =
     let rule = g.R.PairRule in
     let fixed = rule.fixed c.args.rule.now in
-    rw (c.deref-2.ensures.value, c.in_ok-stretches.ensures, c.deref_mut.ensures.value, c.in_ok-bands.ensures, c.reach_of.ensures)
-    (one_stretch (rule.Holds fixed) (rule.rect_of fixed) c.args.items.now (rule.reach_of fixed) (g.met.R.PairRule.near fixed))
+    rw (c.deref-2.ensures.value, c.in_ok-ranges.ensures, c.deref_mut.ensures.value, c.in_ok-bands.ensures, c.reach_of.ensures)
+    (one_range (rule.Holds fixed) (rule.rect_of fixed) c.args.items.now (rule.reach_of fixed) (g.met.R.PairRule.near fixed))
 
 pub sweep-requires-clause-empty : goal.sweep-requires-clause-empty
 sweep-requires-clause-empty g c = rw (c.deref_mut.ensures.value, c.in_ok-bands.ensures) (one_empty c.reach_of.result)
@@ -25,7 +25,7 @@ sweep-requires-clause-entries g c =
     let n : ℕ = length c.args.items.now in
     let few : sum_by (entries_at (replicate n lowest)) order < 2 ^ 62 =
     omega (arith, one_entry n order, all, length-map c.args.items.now rect_of, c.requires.few) in
-    rw (c.deref-2.ensures.value, c.in_ok-stretches.ensures, c.deref.ensures.value) few
+    rw (c.deref-2.ensures.value, c.in_ok-ranges.ensures, c.deref.ensures.value) few
 
 pub returns-clause-tests : goal.returns-clause-tests
 returns-clause-tests g c =
@@ -42,7 +42,7 @@ returns-clause-few_tests g c =
     let rects = map (rule.rect_of fixed) c.args.items.now in
     let order = c.in_ok-order.order.items in
     let tests =
-    rw (c.deref-2.ensures.value, c.in_ok-stretches.ensures, c.deref_mut.ensures.value, c.in_ok-bands.ensures, c.reach_of.ensures, c.deref.ensures.value) at
+    rw (c.deref-2.ensures.value, c.in_ok-ranges.ensures, c.deref_mut.ensures.value, c.in_ok-bands.ensures, c.reach_of.ensures, c.deref.ensures.value) at
     c.in_ok-sweep.ensures.few_tests in
     omega (
       arith,
@@ -59,7 +59,7 @@ returns-clause-few_looks g c =
     let order = c.in_ok-order.order.items in
     let unseen = c.requires.unseen in
     let looks =
-    rw (c.deref-2.ensures.value, c.in_ok-stretches.ensures, c.deref_mut.ensures.value, c.in_ok-bands.ensures, c.reach_of.ensures, c.deref.ensures.value) at
+    rw (c.deref-2.ensures.value, c.in_ok-ranges.ensures, c.deref_mut.ensures.value, c.in_ok-bands.ensures, c.reach_of.ensures, c.deref.ensures.value) at
     c.in_ok-sweep.ensures.few_looks in
     omega (
       arith,

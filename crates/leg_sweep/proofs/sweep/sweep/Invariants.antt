@@ -12,13 +12,13 @@ invariant-loop-i g l =
     let sink = g.S.PairSink in
     let fixed = rule.fixed l.fn.rule in
     let rects = map (rule.rect_of fixed) l.items in
-    let near = near_in_band rects l.stretches l.fn.bands in
-    let both = near_both_in_band rects l.stretches l.fn.bands in
+    let near = near_in_band rects l.ranges l.fn.bands in
+    let both = near_both_in_band rects l.ranges l.fn.bands in
     let done = take l.i l.order in record {
-      found : FoundTo sink.Takes near (IsPair (rule.Holds fixed) l.items) l.stretches l.order l.i l.bands (rule.tests_of l.rule) l.fn.sink l.sink;
+      found : FoundTo sink.Takes near (IsPair (rule.Holds fixed) l.items) l.ranges l.order l.i l.bands (rule.tests_of l.rule) l.fn.sink l.sink;
       reaches : (k : ℕ) → (waiting_at l.bands k).reach ≡ (waiting_at l.fn.bands k).reach;
       count : length l.bands ≡ length l.fn.bands;
-      looks : rule.looks_of l.rule + waiting_count l.bands ≤ rule.looks_of l.fn.rule + sum_by (entries_at l.stretches) done + count_pairs near done;
+      looks : rule.looks_of l.rule + waiting_count l.bands ≤ rule.looks_of l.fn.rule + sum_by (entries_at l.ranges) done + count_pairs near done;
       tests : rule.tests_of l.rule ≤ count_pairs both done;
       counts : rule.tests_of l.rule ≤ rule.looks_of l.rule;
       same : rule.fixed l.rule ≡ fixed;

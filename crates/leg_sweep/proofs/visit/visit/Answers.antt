@@ -11,22 +11,22 @@ use Rattle.leg_sweep.proofs.Turns.{new_pairs_append}
 use Rattle.leg_sweep.proofs.visit.visit.Goals as goal
 
 pub begin-requires-clause-begun : goal.begin-requires-clause-begun
-begin-requires-clause-begun g c = c.requires.can.begun c.args.stretch.first (omega arith) c.requires.can.upward
+begin-requires-clause-begun g c = c.requires.can.begun c.args.range.first (omega arith) c.requires.can.upward
 
 pub begin-requires-clause-apart : goal.begin-requires-clause-apart
-begin-requires-clause-apart g c = λ x begins passes. c.requires.can.apart_passing c.args.stretch.first x (omega arith) c.requires.can.upward begins passes
+begin-requires-clause-apart g c = λ x begins passes. c.requires.can.apart_passing c.args.range.first x (omega arith) c.requires.can.upward begins passes
 
 pub begin-requires-clause-looks : goal.begin-requires-clause-looks
 begin-requires-clause-looks g c =
-    let first : ℕ = c.args.stretch.first in
-    omega (arith, met_longer c.args.bands.now first 0 (c.args.stretch.last - first) (omega arith), c.requires.looks)
+    let first : ℕ = c.args.range.first in
+    omega (arith, met_longer c.args.bands.now first 0 (c.args.range.last - first) (omega arith), c.requires.looks)
 
 pub loop-k-init : goal.loop-k-init
 loop-k-init g c =
     let rule = g.R.PairRule in
     let rects = map (rule.rect_of (rule.fixed c.args.rule.now)) c.args.items.now in
     let old = c.args.bands.now in
-    let first : ℕ = c.args.stretch.first in
+    let first : ℕ = c.args.range.first in
     let new : ℕ = c.args.new in
     let reach : ℕ = (waiting_at old first).reach in
     let narrow = λ (x : ℕ). test_at (near_along_x reach) rects x new in
@@ -66,10 +66,10 @@ pub pass-requires-clause-looks : goal.pass-requires-clause-looks
 pass-requires-clause-looks g c =
     let so_far = c.loop-k.invariant in
     let old = c.args.bands.now in
-    let first : ℕ = c.args.stretch.first in
+    let first : ℕ = c.args.range.first in
     let k : ℕ = c.loop-k.k in
     let here : waiting_at c.loop-k.bands (k + 1) ≡ waiting_at old (k + 1) = so_far.visited.above (k + 1) (omega arith) in
-    let longer = met_longer old first (k + 1 - first) (c.args.stretch.last - first) (omega arith) in
+    let longer = met_longer old first (k + 1 - first) (c.args.range.last - first) (omega arith) in
     let next = ap length (met_next old first k (omega arith)) ∙ length-append (met old first (k - first)) (begun_in old (k + 1)) in
     rw here (omega (arith, so_far.looks, longer, next, c.requires.looks))
 
@@ -86,8 +86,8 @@ loop-k-preserved g c =
     let items = c.args.items.now in
     let rects = map (rule.rect_of fixed) items in
     let old = c.args.bands.now in
-    let first : ℕ = c.args.stretch.first in
-    let last : ℕ = c.args.stretch.last in
+    let first : ℕ = c.args.range.first in
+    let last : ℕ = c.args.range.last in
     let new : ℕ = c.args.new in
     let k : ℕ = c.loop-k.k in
     let upward : first ≤ k = omega arith in
@@ -134,19 +134,19 @@ loop-k-preserved g c =
     }
 
 pub returns-clause-visited : goal.returns-clause-visited
-returns-clause-visited g c = let end : c.loop-k.k ≡ c.args.stretch.last = omega (arith, c.requires.can.upward) in rw end at c.loop-k.invariant.visited
+returns-clause-visited g c = let end : c.loop-k.k ≡ c.args.range.last = omega (arith, c.requires.can.upward) in rw end at c.loop-k.invariant.visited
 
 pub returns-clause-found : goal.returns-clause-found
-returns-clause-found g c = let end : c.loop-k.k ≡ c.args.stretch.last = omega (arith, c.requires.can.upward) in rw end at c.loop-k.invariant.found
+returns-clause-found g c = let end : c.loop-k.k ≡ c.args.range.last = omega (arith, c.requires.can.upward) in rw end at c.loop-k.invariant.found
 
 pub returns-clause-looks : goal.returns-clause-looks
-returns-clause-looks g c = let end : c.loop-k.k ≡ c.args.stretch.last = omega (arith, c.requires.can.upward) in rw end at c.loop-k.invariant.looks
+returns-clause-looks g c = let end : c.loop-k.k ≡ c.args.range.last = omega (arith, c.requires.can.upward) in rw end at c.loop-k.invariant.looks
 
 pub returns-clause-tests : goal.returns-clause-tests
-returns-clause-tests g c = let end : c.loop-k.k ≡ c.args.stretch.last = omega (arith, c.requires.can.upward) in rw end at c.loop-k.invariant.tests
+returns-clause-tests g c = let end : c.loop-k.k ≡ c.args.range.last = omega (arith, c.requires.can.upward) in rw end at c.loop-k.invariant.tests
 
 pub returns-clause-left : goal.returns-clause-left
-returns-clause-left g c = let end : c.loop-k.k ≡ c.args.stretch.last = omega (arith, c.requires.can.upward) in rw end at c.loop-k.invariant.left
+returns-clause-left g c = let end : c.loop-k.k ≡ c.args.range.last = omega (arith, c.requires.can.upward) in rw end at c.loop-k.invariant.left
 
 pub returns-clause-same : goal.returns-clause-same
 returns-clause-same g c = c.loop-k.invariant.same

@@ -37,5 +37,8 @@ returns g c =
     let spacing = spacing_at library.layers c.args.layer in
     let all = take_all c.loop-shape.shape-index c.shapes-shape-items.result.now (omega arith) in
     let none : All (λ (s : Shape). ¬ AreCloserThan spacing metal s) flat.shapes =
-    rw (all, c.shapes-shape-items.ensures.is, c.spacing_at-spacing.ensures.is, c.layers.ensures.is, c.net_metal-metal.ensures) at c.loop-shape.invariant in
-    (λ t. is_clean library flat c.args.net c.args.layer c.args.rect (λ shape has. All-contains (λ (s : Shape). ¬ AreCloserThan spacing metal s) flat.shapes shape none has), λ clean. refl)
+    rw (all, c.shapes-shape-items.ensures.is, c.spacing_at-spacing.ensures.is, c.layers.ensures.is, c.net_metal-metal.ensures) at c.loop-shape.invariant in (
+      λ t. is_clean library flat c.args.net c.args.layer c.args.rect
+          (λ shape has. All-contains (λ (s : Shape). ¬ AreCloserThan spacing metal s) flat.shapes shape none has),
+      λ clean. refl,
+    )

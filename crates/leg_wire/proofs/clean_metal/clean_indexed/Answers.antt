@@ -14,7 +14,8 @@ use Rattle.leg_wire.proofs.clean_metal.clean_indexed.Goals as goal
 pub bounds-shapes-number : goal.bounds-shapes-number
 bounds-shapes-number g c =
     rw c.shapes-shapes.ensures.is
-    (next_within c.args.flat.now.shapes c.args.index.now c.args.rect c.spacing_at-spacing.result c.near-number-items.result c.loop-number.yielded c.loop-number.number-iterator c.next.new.self c.in-Some.number
+    (next_within c.args.flat.now.shapes c.args.index.now c.args.rect c.spacing_at-spacing.result c.near-number-items.result c.loop-number.yielded
+    c.loop-number.number-iterator c.next.new.self c.in-Some.number
     c.requires c.near-number-items.ensures (sym c.into_iter-number-iterator.ensures.into_iter_gives ∙ c.loop-number.invariant.so_far) c.in-Some.ensures.steps)
 
 pub returns-then-are_closer_than : goal.returns-then-are_closer_than
@@ -25,7 +26,8 @@ returns-then-are_closer_than g c =
     let number : ℕ = c.in-Some.number in
     let close = rw (c.spacing_at-spacing.ensures.is, c.layers.ensures.is, c.net_metal-metal.ensures) at (c.if-are_closer_than.ensures.0 refl) in
     let within : number < length flat.shapes =
-    next_within flat.shapes c.args.index.now c.args.rect c.spacing_at-spacing.result c.near-number-items.result c.loop-number.yielded c.loop-number.number-iterator c.next.new.self number
+    next_within flat.shapes c.args.index.now c.args.rect c.spacing_at-spacing.result c.near-number-items.result c.loop-number.yielded
+    c.loop-number.number-iterator c.next.new.self number
     c.requires c.near-number-items.ensures (sym c.into_iter-number-iterator.ensures.into_iter_gives ∙ c.loop-number.invariant.so_far) c.in-Some.ensures.steps in
     let is = rw c.shapes-shapes.ensures.is at c.index-shapes-number.is in
     let has : Contains flat.shapes shape = (number, within, sym is) in
@@ -39,14 +41,18 @@ loop-number-preserved g c =
     let reach = c.spacing_at-spacing.result in
     let metal = c.net_metal-metal.result in
     let within : number < length shapes = rw c.shapes-shapes.ensures.is
-    (next_within c.args.flat.now.shapes c.args.index.now c.args.rect reach c.near-number-items.result c.loop-number.yielded c.loop-number.number-iterator c.next.new.self number
-    c.requires c.near-number-items.ensures (sym c.into_iter-number-iterator.ensures.into_iter_gives ∙ c.loop-number.invariant.so_far) c.in-Some.ensures.steps) in
+    (next_within c.args.flat.now.shapes c.args.index.now c.args.rect reach c.near-number-items.result c.loop-number.yielded c.loop-number.number-iterator
+    c.next.new.self number
+    c.requires c.near-number-items.ensures (sym c.into_iter-number-iterator.ensures.into_iter_gives ∙ c.loop-number.invariant.so_far) c.in-Some.ensures.steps)
+    in
     let far : ¬ AreCloserThan reach metal shape = λ close. false≢true (c.if-are_closer_than.ensures.1 close) in
     let at : slice_get shapes number ≡ Some shape = slice_get_read shapes (length shapes) number shape refl within c.index-shapes-number.is in
     record {
       can = tt;
       ends = tt;
-      so_far = c.loop-number.invariant.so_far ∙ ap (λ xs. c.loop-number.yielded ++ xs) c.in-Some.ensures.steps ∙ sym (append_assoc c.loop-number.yielded (number ∷ []) c.next.new.self);
+      so_far =
+          c.loop-number.invariant.so_far ∙ ap (λ xs. c.loop-number.yielded ++ xs) c.in-Some.ensures.steps
+          ∙ sym (append_assoc c.loop-number.yielded (number ∷ []) c.next.new.self);
       far = All-push (IsFarAt shapes reach metal) c.loop-number.yielded number c.loop-number.invariant.far (far_at shapes reach metal number shape at far);
     }
 
@@ -58,8 +64,10 @@ returns g c =
     let spacing = spacing_at library.layers c.args.layer in
     let all = c.near-number-items.result in
     let done : all ≡ c.loop-number.yielded =
-    sym c.into_iter-number-iterator.ensures.into_iter_gives ∙ c.loop-number.invariant.so_far ∙ ap (λ xs. c.loop-number.yielded ++ xs) c.in-None.ensures.steps.0 ∙ append-nil c.loop-number.yielded in
-    let near : AreNear (rects_of flat.shapes) c.args.rect spacing all = rw (c.requires, c.spacing_at-spacing.ensures.is, c.layers.ensures.is) at c.near-number-items.ensures in
+    sym c.into_iter-number-iterator.ensures.into_iter_gives ∙ c.loop-number.invariant.so_far ∙ ap (λ xs. c.loop-number.yielded ++ xs) c.in-None.ensures.steps.0
+    ∙ append-nil c.loop-number.yielded in
+    let near : AreNear (rects_of flat.shapes) c.args.rect spacing all =
+    rw (c.requires, c.spacing_at-spacing.ensures.is, c.layers.ensures.is) at c.near-number-items.ensures in
     let far : All (IsFarAt flat.shapes spacing metal) all =
     rw done (rw (c.shapes-shapes.ensures.is, c.spacing_at-spacing.ensures.is, c.layers.ensures.is, c.net_metal-metal.ensures) at c.loop-number.invariant.far) in
     (λ t. is_clean library flat c.args.net c.args.layer c.args.rect (far_from_all flat.shapes spacing metal all near far), λ clean. refl)

@@ -35,7 +35,8 @@ returns g c =
     let size : c.len.result ≡ length kinds = grind (arith, common_steps) in
     let are_members : AreMembers numbers (length kinds) members = rw (c.deref-2.ensures.value, size) at c.in_ok-members.ensures in
     let are : ArePairs (AreClose layers reach) kinds close = rw c.deref.ensures.value at c.in_ok-close.ensures.pairs in
-    let found : c.push_among.new.found.items ≡ pairs_among members close = rw (c.deref-3.ensures.value, c.deref-4.ensures.value, c.new-found.ensures.items) at c.in_ok-push_among.ensures in
+    let found : c.push_among.new.found.items ≡ pairs_among members close =
+    rw (c.deref-3.ensures.value, c.deref-4.ensures.value, c.new-found.ensures.items) at c.in_ok-push_among.ensures in
     pairs_of_kinds layers reach shapes kinds numbers members close are_kinds are_members are c.put_in_order.new.pairs.items c.put_in_order.ensures.rising
     (λ p has. rw found at ((c.put_in_order.ensures.same p).0 has))
     (λ p has. (c.put_in_order.ensures.same p).1 (rw found has))

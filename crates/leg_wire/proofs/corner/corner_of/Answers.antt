@@ -12,6 +12,8 @@ returns c =
     let fits_x2 : FitsSigned w64 c.x1-2.result = search rules in
     let fits_y1 : FitsSigned w64 c.y1.result = search rules in
     let fits_y2 : FitsSigned w64 c.y1-2.result = search rules in
-    let x : c.max.result ≡ int_max c.args.a.now.rect.x1 c.args.b.now.rect.x1 = rw (← c.x1.ensures.is, ← c.x1-2.ensures.is) (simp to_z-of_z at c.max.ensures.value) in
-    let y : c.max-2.result ≡ int_max c.args.a.now.rect.y1 c.args.b.now.rect.y1 = rw (← c.y1.ensures.is, ← c.y1-2.ensures.is) (simp to_z-of_z at c.max-2.ensures.value) in
+    let x : c.max.result ≡ int_max c.args.a.now.rect.x1 c.args.b.now.rect.x1 =
+    rw (← c.x1.ensures.is, ← c.x1-2.ensures.is) (simp to_z-of_z at c.max.ensures.value) in
+    let y : c.max-2.result ≡ int_max c.args.a.now.rect.y1 c.args.b.now.rect.y1 =
+    rw (← c.y1.ensures.is, ← c.y1-2.ensures.is) (simp to_z-of_z at c.max-2.ensures.value) in
     simp to_z-of_z (corner_only c.args.a.now.rect c.args.b.now.rect c.max.result c.max-2.result x y c.requires.meet c.requires.single)

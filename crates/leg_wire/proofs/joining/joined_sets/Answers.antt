@@ -28,7 +28,8 @@ returns-then-are_all_set g c =
     let counted : piece_count flat net ≡ count = piece_count-is flat net count c.pieces_of_net-count.ensures.is in
     let some : AreSomeJoined metal (piece_count flat net) sets = rw counted c.in_ok-sets.ensures in
     let set : All (λ mark. IsTrue mark) c.in_ok-marks.field-0.items = rw c.deref.ensures.value at (c.if-are_all_set.ensures refl) in
-    sets_of_one flat net metal c.requires.metal sets some (all_marked sets (piece_count flat net) c.in_ok-marks.field-0.items some.size c.in_ok-marks.ensures set)
+    sets_of_one flat net metal c.requires.metal sets some
+    (all_marked sets (piece_count flat net) c.in_ok-marks.field-0.items some.size c.in_ok-marks.ensures set)
 
 pub returns : goal.returns
 returns g c =

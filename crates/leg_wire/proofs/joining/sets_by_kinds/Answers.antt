@@ -9,7 +9,8 @@ pub sets_of_metal-requires-clause-places : goal.sets_of_metal-requires-clause-pl
 sets_of_metal-requires-clause-places g c =
     let metal = c.args.metal.now in
     rw c.deref.ensures.value
-    (All-weaker (Contains metal) (λ shape. shape.piece < c.args.count) (λ shape has. All-contains (λ shape. shape.piece < c.args.count) metal shape c.requires.places has) c.in_ok-kinds.kinds.items c.in_ok-kinds.ensures.among)
+    (All-weaker (Contains metal) (λ shape. shape.piece < c.args.count)
+    (λ shape has. All-contains (λ shape. shape.piece < c.args.count) metal shape c.requires.places has) c.in_ok-kinds.kinds.items c.in_ok-kinds.ensures.among)
 
 pub unite_alike-requires-clause-among : goal.unite_alike-requires-clause-among
 unite_alike-requires-clause-among g c = rw c.deref-2.ensures.value c.in_ok-kinds.ensures.among

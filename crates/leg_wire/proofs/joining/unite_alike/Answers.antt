@@ -9,7 +9,9 @@ pub unite_touching-requires-clause-b : goal.unite_touching-requires-clause-b
 unite_touching-requires-clause-b g c =
     let metal = c.args.metal.now in
     let kind = c.index-kinds-numbers.result in
-    let has : Contains metal kind = kind_among metal c.args.kinds.now c.args.numbers.now c.requires.count c.requires.within c.requires.among c.loop-k.k _ kind (omega arith) c.index-kinds-numbers.is in
+    let has : Contains metal kind =
+    kind_among metal c.args.kinds.now c.args.numbers.now c.requires.count c.requires.within c.requires.among c.loop-k.k _ kind
+    (omega arith) c.index-kinds-numbers.is in
     let low = All-contains (λ shape. shape.piece < length c.args.sets.now) metal kind c.requires.places has in
     omega (arith, low, c.loop-k.invariant.some.size)
 
@@ -18,7 +20,9 @@ loop-k-preserved g c =
     let metal = c.args.metal.now in
     let one = c.index-metal-k.result in
     let kind = c.index-kinds-numbers.result in
-    let has : Contains metal kind = kind_among metal c.args.kinds.now c.args.numbers.now c.requires.count c.requires.within c.requires.among c.loop-k.k _ kind (omega arith) c.index-kinds-numbers.is in
+    let has : Contains metal kind =
+    kind_among metal c.args.kinds.now c.args.numbers.now c.requires.count c.requires.within c.requires.among c.loop-k.k _ kind
+    (omega arith) c.index-kinds-numbers.is in
     let one_in : Contains metal one = (c.loop-k.k, omega arith, sym c.index-metal-k.is) in
     let after = c.unite_touching.new.sets in
     let step = c.unite_touching.ensures in

@@ -11,7 +11,7 @@ returns g c =
     let empty = c.replace-others.new.dest in
     let is_empty : empty ≡ [] = c.replace-others.ensures.after ∙ c.from_vec-empty.ensures ∙ c.new.ensures.items in
     let into : low ≡ 0 → IsTrue (nat_eq low 0) = λ same. grind (arith, nat_tests, same) in
-    let back : IsTrue (nat_eq low 0) → low ≡ 0 = λ test. grind (arith, nat_tests, test) in
-    merged_as_written c.args.members.now low high empty c.replace-own.new.dest c.replace-own.result c.replace-others.result c.in_ok-members.field-0 c.index-members-low.result c.index-members-high.result
-    (IsTrue (nat_eq low 0)) c.requires.order c.requires.within is_empty c.replace-own.ensures.value c.replace-others.ensures.value into back
+    merged_as_written c.args.members.now low high empty c.replace-own.new.dest c.replace-own.result c.replace-others.result c.in_ok-members.field-0
+    c.index-members-low.result c.index-members-high.result
+    (IsTrue (nat_eq low 0)) c.requires.order c.requires.within is_empty c.replace-own.ensures.value c.replace-others.ensures.value into
     c.in_ok-members.ensures

@@ -23,8 +23,10 @@ bounds-metal-near g c =
     let new = c.requires.new in
     let within = c.requires.within in
     let low : c.in-Some.near < length c.args.index.now =
-    near_low c.args.metal.now c.args.index.now c.index-metal-number.result.rect c.near-near-items.result c.loop-near.yielded c.loop-near.near-iterator c.next.new.self c.in-Some.near
-    (omega (arith, new, within)) c.requires.first c.near-near-items.ensures (sym c.into_iter-near-iterator.ensures.into_iter_gives ∙ c.loop-near.invariant.so_far) c.in-Some.ensures.steps in
+    near_low c.args.metal.now c.args.index.now c.index-metal-number.result.rect c.near-near-items.result c.loop-near.yielded c.loop-near.near-iterator
+    c.next.new.self c.in-Some.near
+    (omega (arith, new, within)) c.requires.first c.near-near-items.ensures
+    (sym c.into_iter-near-iterator.ensures.into_iter_gives ∙ c.loop-near.invariant.so_far) c.in-Some.ensures.steps in
     omega (arith, low, new, within)
 
 pub join-requires-clause-a : goal.join-requires-clause-a
@@ -35,7 +37,8 @@ join-requires-clause-a g c =
     let new = c.requires.new in
     let within = c.requires.within in
     let low : c.in-Some.near < few =
-    near_low metal c.args.index.now rect c.near-near-items.result c.loop-near.yielded c.loop-near.near-iterator c.next.new.self c.in-Some.near (omega (arith, new, within)) c.requires.first
+    near_low metal c.args.index.now rect c.near-near-items.result c.loop-near.yielded c.loop-near.near-iterator c.next.new.self c.in-Some.near
+    (omega (arith, new, within)) c.requires.first
     c.near-near-items.ensures (sym c.into_iter-near-iterator.ensures.into_iter_gives ∙ c.loop-near.invariant.so_far) c.in-Some.ensures.steps in
     let place : c.index-metal-near.result.piece < length c.args.groups.now.sets =
     rw c.index-metal-near.is (c.requires.places c.in-Some.near c.index-metal-near.result (omega (arith, low, new, within))) in
@@ -52,19 +55,25 @@ loop-near-preserved-in-Continue-1 g c =
     let new = c.requires.new in
     let within = c.requires.within in
     let low : c.in-Some.near < length c.args.index.now =
-    near_low c.args.metal.now c.args.index.now c.index-metal-number.result.rect c.near-near-items.result c.loop-near.yielded c.loop-near.near-iterator c.next.new.self c.in-Some.near
-    (omega (arith, new, within)) c.requires.first c.near-near-items.ensures (sym c.into_iter-near-iterator.ensures.into_iter_gives ∙ c.loop-near.invariant.so_far) c.in-Some.ensures.steps in
+    near_low c.args.metal.now c.args.index.now c.index-metal-number.result.rect c.near-near-items.result c.loop-near.yielded c.loop-near.near-iterator
+    c.next.new.self c.in-Some.near
+    (omega (arith, new, within)) c.requires.first c.near-near-items.ensures
+    (sym c.into_iter-near-iterator.ensures.into_iter_gives ∙ c.loop-near.invariant.so_far) c.in-Some.ensures.steps in
     record {
       can = tt;
       ends = tt;
-      so_far = c.loop-near.invariant.so_far ∙ ap (λ xs. c.loop-near.yielded ++ xs) c.in-Some.ensures.steps ∙ sym (append_assoc c.loop-near.yielded (c.in-Some.near ∷ []) c.next.new.self);
+      so_far =
+          c.loop-near.invariant.so_far ∙ ap (λ xs. c.loop-near.yielded ++ xs) c.in-Some.ensures.steps
+          ∙ sym (append_assoc c.loop-near.yielded (c.in-Some.near ∷ []) c.next.new.self);
       taken =
-          among_met c.args.metal.now c.args.number c.loop-near.yielded c.args.groups.now.sets c.loop-near.groups.sets c.args.corners.now c.loop-near.corners c.loop-near.invariant.taken
+          among_met c.args.metal.now c.args.number c.loop-near.yielded c.args.groups.now.sets c.loop-near.groups.sets c.args.corners.now c.loop-near.corners
+          c.loop-near.invariant.taken
           c.in-Some.near c.index-metal-near.result c.index-metal-number.result c.index-metal-near.is c.index-metal-number.is (omega (arith, low, new)) within
           (c.if-do_meet.ensures.0 refl) c.join.new.self.sets c.join.new.corners c.in_ok-join.ensures.step c.in_ok-join.ensures.count;
       listed = c.in_ok-join.ensures.listed;
       grown =
-          HasGrown-onward (get_or c.args.groups.now.members.items 0 []) (get_or c.loop-near.groups.members.items 0 []) (get_or c.join.new.self.members.items 0 []) c.loop-near.invariant.grown
+          HasGrown-onward (get_or c.args.groups.now.members.items 0 []) (get_or c.loop-near.groups.members.items 0 [])
+          (get_or c.join.new.self.members.items 0 []) c.loop-near.invariant.grown
           c.in_ok-join.ensures.grown;
     }
 
@@ -76,14 +85,19 @@ loop-near-preserved g c =
     let new = c.requires.new in
     let within = c.requires.within in
     let low : c.in-Some.near < length c.args.index.now =
-    near_low c.args.metal.now c.args.index.now c.index-metal-number.result.rect c.near-near-items.result c.loop-near.yielded c.loop-near.near-iterator c.next.new.self c.in-Some.near
-    (omega (arith, new, within)) c.requires.first c.near-near-items.ensures (sym c.into_iter-near-iterator.ensures.into_iter_gives ∙ c.loop-near.invariant.so_far) c.in-Some.ensures.steps in
+    near_low c.args.metal.now c.args.index.now c.index-metal-number.result.rect c.near-near-items.result c.loop-near.yielded c.loop-near.near-iterator
+    c.next.new.self c.in-Some.near
+    (omega (arith, new, within)) c.requires.first c.near-near-items.ensures
+    (sym c.into_iter-near-iterator.ensures.into_iter_gives ∙ c.loop-near.invariant.so_far) c.in-Some.ensures.steps in
     record {
       can = tt;
       ends = tt;
-      so_far = c.loop-near.invariant.so_far ∙ ap (λ xs. c.loop-near.yielded ++ xs) c.in-Some.ensures.steps ∙ sym (append_assoc c.loop-near.yielded (c.in-Some.near ∷ []) c.next.new.self);
+      so_far =
+          c.loop-near.invariant.so_far ∙ ap (λ xs. c.loop-near.yielded ++ xs) c.in-Some.ensures.steps
+          ∙ sym (append_assoc c.loop-near.yielded (c.in-Some.near ∷ []) c.next.new.self);
       taken =
-          among_apart c.args.metal.now c.args.number c.loop-near.yielded c.args.groups.now.sets c.loop-near.groups.sets c.args.corners.now c.loop-near.corners c.loop-near.invariant.taken
+          among_apart c.args.metal.now c.args.number c.loop-near.yielded c.args.groups.now.sets c.loop-near.groups.sets c.args.corners.now c.loop-near.corners
+          c.loop-near.invariant.taken
           c.in-Some.near c.index-metal-near.result c.index-metal-number.result c.index-metal-near.is c.index-metal-number.is (omega (arith, low, new)) within
           (λ meet. false≢true (c.if-do_meet.ensures.1 meet));
       listed = c.loop-near.invariant.listed;
@@ -98,10 +112,12 @@ returns-clause-takes g c =
     let within = c.requires.within in
     let all = c.near-near-items.result in
     let done : all ≡ c.loop-near.yielded =
-    sym c.into_iter-near-iterator.ensures.into_iter_gives ∙ c.loop-near.invariant.so_far ∙ ap (λ xs. c.loop-near.yielded ++ xs) c.in-None.ensures.steps.0 ∙ append-nil c.loop-near.yielded in
-    let near : AreNear (first_rects few metal) c.index-metal-number.result.rect 0 c.loop-near.yielded = rw (← done) (rw (← c.requires.first) c.near-near-items.ensures) in
-    near_taken metal few c.args.number c.loop-near.yielded c.args.groups.now.sets c.loop-near.groups.sets c.args.corners.now c.loop-near.corners c.index-metal-number.result (omega (arith, new, within)) within
-    c.index-metal-number.is near c.loop-near.invariant.taken
+    sym c.into_iter-near-iterator.ensures.into_iter_gives ∙ c.loop-near.invariant.so_far ∙ ap (λ xs. c.loop-near.yielded ++ xs) c.in-None.ensures.steps.0
+    ∙ append-nil c.loop-near.yielded in
+    let near : AreNear (first_rects few metal) c.index-metal-number.result.rect 0 c.loop-near.yielded =
+    rw (← done) (rw (← c.requires.first) c.near-near-items.ensures) in
+    near_taken metal few c.args.number c.loop-near.yielded c.args.groups.now.sets c.loop-near.groups.sets c.args.corners.now c.loop-near.corners
+    c.index-metal-number.result (omega (arith, new, within)) within c.index-metal-number.is near c.loop-near.invariant.taken
 
 pub returns-clause-count : goal.returns-clause-count
 returns-clause-count g c = c.loop-near.invariant.taken.count

@@ -31,12 +31,14 @@ loop-number-preserved g c =
       begun = omega (arith, begun);
       within = omega (arith, below);
       taken =
-          new_more c.args.metal.now (length c.args.index.now) (length c.args.index.now) c.loop-number.number c.args.groups.now.sets c.loop-number.groups.sets c.join_near.new.groups.sets c.new-corners.result c.loop-number.corners
-          c.join_near.new.corners c.loop-number.invariant.taken c.in_ok-join_near.ensures.takes;
+          new_more c.args.metal.now (length c.args.index.now)
+          (length c.args.index.now) c.loop-number.number c.args.groups.now.sets c.loop-number.groups.sets c.join_near.new.groups.sets c.new-corners.result
+          c.loop-number.corners c.join_near.new.corners c.loop-number.invariant.taken c.in_ok-join_near.ensures.takes;
       count = c.in_ok-join_near.ensures.count ∙ c.loop-number.invariant.count;
       listed = c.in_ok-join_near.ensures.listed;
       grown =
-          HasGrown-onward (get_or c.args.groups.now.members.items 0 []) (get_or c.loop-number.groups.members.items 0 []) (get_or c.join_near.new.groups.members.items 0 []) c.loop-number.invariant.grown
+          HasGrown-onward (get_or c.args.groups.now.members.items 0 []) (get_or c.loop-number.groups.members.items 0 [])
+          (get_or c.join_near.new.groups.members.items 0 []) c.loop-number.invariant.grown
           c.in_ok-join_near.ensures.grown;
     }
 

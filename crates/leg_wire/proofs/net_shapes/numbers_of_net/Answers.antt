@@ -16,9 +16,11 @@ loop-number-preserved g c =
     let at : slice_get shapes i ≡ Some shape = slice_get_read shapes _ i shape refl (omega arith) c.index-shapes-number.is in
     elim c.if-is_net.branch [
       | then-is_net+in_ok-push w ↦
-          rw (w.numbers-is, w.in_ok-push.ensures.items) (below_more shapes net i numbers c.loop-number.invariant (of_owner shapes i shape at net (c.is_net.ensures.0 w.if-is_net.true)))
+          rw (w.numbers-is, w.in_ok-push.ensures.items)
+          (below_more shapes net i numbers c.loop-number.invariant (of_owner shapes i shape at net (c.is_net.ensures.0 w.if-is_net.true)))
       | else-is_net w ↦
-          rw w.numbers-is (below_skip shapes net i numbers c.loop-number.invariant (λ of_net. false≢true (sym w.if-is_net.false ∙ c.is_net.ensures.1 (owner_of shapes i shape at net of_net))))
+          rw w.numbers-is (below_skip shapes net i numbers c.loop-number.invariant
+          (λ of_net. false≢true (sym w.if-is_net.false ∙ c.is_net.ensures.1 (owner_of shapes i shape at net of_net))))
     ]
 
 pub returns : goal.returns

@@ -18,7 +18,8 @@ joined_among-requires-clause-numbers g c =
     let net = c.loop-net.net in
     let lists = c.in_ok-numbers.numbers.items in
     let low : net < length c.nets.result.now = omega arith in
-    let list : c.as_slice.result.now ≡ get_or lists net [] = c.as_slice.ensures ∙ get_or_read lists net c.index.result.now (omega (arith, low, c.in_ok-numbers.ensures.long)) c.index.ensures [] in
+    let list : c.as_slice.result.now ≡ get_or lists net [] =
+    c.as_slice.ensures ∙ get_or_read lists net c.index.result.now (omega (arith, low, c.in_ok-numbers.ensures.long)) c.index.ensures [] in
     rw (list, ← c.shapes.ensures.is) (c.in_ok-numbers.ensures.each net low)
 
 pub push_open-requires : goal.push_open-requires
@@ -31,7 +32,8 @@ loop-net-preserved g c =
     let design = c.args.design.now in
     let net = c.loop-net.net in
     let marks = c.in_ok-marks.marks.items in
-    let added : AreAdded (NamesOnlyUnmarked net marks) c.loop-net.found.items c.push_open.new.found.items = rw c.deref.ensures.value at c.in_ok-push_open.ensures in
+    let added : AreAdded (NamesOnlyUnmarked net marks) c.loop-net.found.items c.push_open.new.found.items =
+    rw c.deref.ensures.value at c.in_ok-push_open.ensures in
     let entry : net < length design.nets = omega (arith, ap length c.nets.ensures.is) in
     open_more design c.args.flat.now net marks entry c.in_ok-marks.ensures c.loop-net.found.items c.push_open.new.found.items c.loop-net.invariant added
 

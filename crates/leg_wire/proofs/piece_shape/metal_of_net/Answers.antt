@@ -16,7 +16,8 @@ bounds-shapes-number g c =
     let flat = c.args.flat.now in
     let numbers = c.args.numbers.now in
     let i = c.loop-number.number-index in
-    let of_net : IsOfNet flat.shapes c.args.net (get_or numbers i 0) = c.requires.numbers.each (get_or numbers i 0) (Contains-get_or numbers i 0 (omega arith)) in
+    let of_net : IsOfNet flat.shapes c.args.net (get_or numbers i 0) =
+    c.requires.numbers.each (get_or numbers i 0) (Contains-get_or numbers i 0 (omega arith)) in
     rw c.shapes-shapes.ensures.is (slice_get_within flat.shapes (get_or numbers i 0) of_net.shape of_net.at)
 
 pub loop-number-preserved : goal.loop-number-preserved
@@ -37,10 +38,12 @@ loop-number-preserved g c =
     elim c.match-piece_shape.branch [
       | in-Some+in_ok-push w ↦
           rw (w.pieces-is, w.in_ok-push.ensures.items, more)
-          (among_more flat net (take i numbers) pieces c.loop-number.invariant k shape at of_net count counted c.piece_shape.result c.piece_shape.ensures w.in-Some.piece w.in-Some.is)
+          (among_more flat net (take i numbers) pieces c.loop-number.invariant k shape at of_net count counted c.piece_shape.result c.piece_shape.ensures
+          w.in-Some.piece w.in-Some.is)
       | in_default w ↦
           rw (w.pieces-is, more)
-          (among_skip flat net (take i numbers) pieces c.loop-number.invariant k shape at of_net count counted c.piece_shape.result c.piece_shape.ensures w.in_default.is)
+          (among_skip flat net (take i numbers) pieces c.loop-number.invariant k shape at of_net count counted c.piece_shape.result c.piece_shape.ensures
+          w.in_default.is)
     ]
 
 pub returns-clause-shapes : goal.returns-clause-shapes

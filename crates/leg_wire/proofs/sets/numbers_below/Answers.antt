@@ -7,7 +7,8 @@ use Rattle.leg_wire.proofs.sets.numbers_below.Goals as goal
 
 pub loop-number-preserved : goal.loop-number-preserved
 loop-number-preserved g c =
-    rw (c.in_ok-push.ensures.items, c.loop-number.invariant) (sym (map-range_with_len_more (λ (n : ℕ). n) 0 c.loop-number.number c.loop-number.number (omega arith)))
+    rw (c.in_ok-push.ensures.items, c.loop-number.invariant)
+    (sym (map-range_with_len_more (λ (n : ℕ). n) 0 c.loop-number.number c.loop-number.number (omega arith)))
 
 pub returns : goal.returns
 returns g c =

@@ -20,8 +20,10 @@ loop-i-preserved g c =
     elim c.if-holds.branch [
       | then-holds+in_ok-push w ↦
           rw (w.found-is, w.in_ok-push.ensures.items, w.fault.ensures)
-          (told_more kind shapes close c.requires.increasing k c.loop-i-test.true a b a_at b_at c.args.found.now.items c.loop-i.found.items (c.holds.ensures.0 w.if-holds.true) c.loop-i.invariant)
+          (told_more kind shapes close c.requires.increasing k c.loop-i-test.true a b a_at b_at c.args.found.now.items c.loop-i.found.items
+          (c.holds.ensures.0 w.if-holds.true) c.loop-i.invariant)
       | else-holds w ↦
           rw w.found-is
-          (told_skip kind shapes close c.requires.increasing k c.loop-i-test.true a b a_at b_at c.args.found.now.items c.loop-i.found.items (λ of. false≢true (sym w.if-holds.false ∙ c.holds.ensures.1 of)) c.loop-i.invariant)
+          (told_skip kind shapes close c.requires.increasing k c.loop-i-test.true a b a_at b_at c.args.found.now.items c.loop-i.found.items
+          (λ of. false≢true (sym w.if-holds.false ∙ c.holds.ensures.1 of)) c.loop-i.invariant)
     ]

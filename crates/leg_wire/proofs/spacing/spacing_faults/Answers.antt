@@ -30,7 +30,8 @@ returns g c =
     let reach = c.new-rule.result.reach in
     let close = c.in_ok-close.close.items in
     let within : All (λ layer. unsigned_abs layer.spacing ≤ reach) library.layers = rw (← c.layers.ensures.is) c.new-rule.ensures.reach in
-    let are : ArePairs (AreClose library.layers reach) flat.shapes close = rw (c.new-rule.ensures.layers, c.layers.ensures.is, c.shapes-shapes.ensures.is) at c.in_ok-close.ensures in
+    let are : ArePairs (AreClose library.layers reach) flat.shapes close =
+    rw (c.new-rule.ensures.layers, c.layers.ensures.is, c.shapes-shapes.ensures.is) at c.in_ok-close.ensures in
     let s = c.in_ok-push_pairs.ensures in
     let n = c.in_ok-push_pairs-2.ensures in
     let shorts : IsListOf (IsPairViolation Short DoShare flat.shapes close) s.more = rw (c.deref.ensures.value, c.shapes-shapes.ensures.is) at s.list in

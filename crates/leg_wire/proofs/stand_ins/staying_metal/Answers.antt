@@ -22,7 +22,8 @@ add_once-requires-clause-alike g c =
     let at : slice_get metal k ≡ Some one = slice_get_read metal _ k one refl (omega arith) c.index-metal-k.is in
     let of : IsOfKind AreSameMetal c.args.kinds.now (get_or c.args.numbers.now k 0) one = c.requires.kinds.each k one at in
     let late = c.index_mut.result.now in
-    let like : AreSameMetal of.kind late = rw (sym c.index_mut.ensures.value) at (c.loop-k.invariant.latest.alike (get_or c.args.numbers.now k 0) of.kind late of.at) in
+    let like : AreSameMetal of.kind late =
+    rw (sym c.index_mut.ensures.value) at (c.loop-k.invariant.latest.alike (get_or c.args.numbers.now k 0) of.kind late of.at) in
     record { layer = of.alike.layer ∙ like.layer; rect = of.alike.rect ∙ like.rect }
 
 pub add_once-requires-clause-there : goal.add_once-requires-clause-there
@@ -46,9 +47,14 @@ loop-k-preserved g c =
     let one = c.index-metal-k.result in
     let at : slice_get metal k ≡ Some one = slice_get_read metal _ k one refl (omega arith) c.index-metal-k.is in
     let of : IsOfKind AreSameMetal kinds (get_or c.args.numbers.now k 0) one = c.requires.kinds.each k one at in
-    let low : one.piece < length staying = All-contains (λ shape. shape.piece < length staying) metal one c.requires.places (k, omega arith, sym c.index-metal-k.is) in
+    let low : one.piece < length staying =
+    All-contains (λ shape. shape.piece < length staying) metal one c.requires.places (k, omega arith, sym c.index-metal-k.is) in
     let done = c.in_ok-add_once.ensures in
     record {
-      latest = latest_next kinds c.loop-k.rest.items c.loop-k.latest.items c.add_once.new.rest.items (get_or c.args.numbers.now k 0) one of.kind c.add_once.new.latest of.at of.alike done.alike done.there done.more c.loop-k.invariant.latest;
-      rest = staying_next metal kinds staying k c.loop-k.rest.items c.add_once.new.rest.items one at c.loop-k.invariant.rest done.more (λ stays. done.stays (sym (get_or_default staying one.piece true false low) ∙ stays));
+      latest =
+          latest_next kinds c.loop-k.rest.items c.loop-k.latest.items c.add_once.new.rest.items
+          (get_or c.args.numbers.now k 0) one of.kind c.add_once.new.latest of.at of.alike done.alike done.there done.more c.loop-k.invariant.latest;
+      rest =
+          staying_next metal kinds staying k c.loop-k.rest.items c.add_once.new.rest.items one at c.loop-k.invariant.rest done.more
+          (λ stays. done.stays (sym (get_or_default staying one.piece true false low) ∙ stays));
     }

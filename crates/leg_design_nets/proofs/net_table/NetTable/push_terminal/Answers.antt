@@ -1,4 +1,4 @@
-use Rattle.std.proofs.Common.{◌≡◌, ◌+◌, ◌<◌, false, List, length, refl, ap, ◌∙◌, arith}
+use Rattle.std.proofs.Common.{◌≡◌, ◌<◌, false, List, length, ap, ◌∙◌, arith}
 use Rattle.std.proofs.lemmas.Grind.{common_steps}
 use Rattle.leg_grammar.specs.Def.LonePins.{is_listed, with_terminal}
 use Rattle.leg_design_records.specs.Records.{NetModel}
@@ -28,4 +28,4 @@ invariant_of-self-2 g c =
     let not : is_listed c.args.terminal nets ≡ false = ap (λ (xs : List NetModel). is_listed c.args.terminal xs) c.self.view_is ∙ c.requires.unlisted in
     kept_listed nets c.list_terminal.new.nets c.self.inside.items.len c.args.number c.args.terminal c.self.inside.names (number_of c.self.inside.index.numbers)
     (number_of c.reserve.new.self.numbers) (number_of c.push.new.self.numbers) c.self.inside.terminals
-    (c.self.inside.terminals + 1) c.self.inside.wires c.self.invariant whole less put not c.reserve.ensures.same c.push.ensures refl
+    c.self.inside.wires c.self.invariant whole less put not (record { same = c.reserve.ensures.same; updates = c.push.ensures })

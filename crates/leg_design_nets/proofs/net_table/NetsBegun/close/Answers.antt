@@ -16,5 +16,5 @@ invariant_of-self-2 g c =
     let so_many : c.len.result ≡ length begun = grind (arith, common_steps) in
     let so_many_wires : c.len-2.result ≡ length c.args.wires.items = grind (arith, common_steps) in
     kept_closed nets c.push-2.new.self.items begun c.replace-terminals.new.dest.items net c.self.inside.names c.push.new.self
-    (number_of c.self.inside.index.numbers) c.self.inside.terminals c.self.inside.wires c.len.result c.len-2.result c.self.invariant pushed nothing named refl
-    so_many so_many_wires
+    (number_of c.self.inside.index.numbers) c.self.inside.terminals c.self.inside.wires c.len.result c.len-2.result c.self.invariant
+    (record { pushed = pushed; whole = refl; so_many = so_many; so_many_wires = so_many_wires }) nothing named

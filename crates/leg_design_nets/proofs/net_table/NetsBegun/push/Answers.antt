@@ -17,8 +17,8 @@ invariant_of-self-2 g c =
     record {
       named = c.self.invariant.named;
       indexed = index_begun (number_of c.self.inside.index.numbers) (number_of c.reserve-2.new.self.numbers)
-          (number_of c.push.new.self.numbers) nets begun c.push-2.new.self.items c.args.terminal c.len.result c.self.invariant.indexed c.reserve-2.ensures.same
-          c.push.ensures last more before here;
+          (number_of c.push.new.self.numbers) nets begun c.push-2.new.self.items c.args.terminal c.len.result c.self.invariant.indexed
+          (record { same = c.reserve-2.ensures.same; updates = c.push.ensures }) last more before here;
       listed = c.self.invariant.listed;
       wired = c.self.invariant.wired;
     }

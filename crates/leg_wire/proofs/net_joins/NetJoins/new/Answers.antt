@@ -12,7 +12,8 @@ use Rattle.leg_wire.proofs.net_joins.NetJoins.new.Goals as goal
 pub joined_sets-requires-clause-metal : goal.joined_sets-requires-clause-metal
 joined_sets-requires-clause-metal g c =
     rw c.deref.ensures.value
-    (pieces_in_order c.args.flat.now c.args.net c.in_ok-metal.metal.items c.sort_by_piece.new.metal.items c.sort_by_piece.ensures.same c.in_ok-metal.ensures.shapes)
+    (pieces_in_order c.args.flat.now c.args.net c.in_ok-metal.metal.items c.sort_by_piece.new.metal.items c.sort_by_piece.ensures.same
+    c.in_ok-metal.ensures.shapes)
 
 pub joined_sets-requires-clause-few : goal.joined_sets-requires-clause-few
 joined_sets-requires-clause-few g c =
@@ -31,7 +32,8 @@ invariant_of-result g c =
     let net = c.args.net in
     let metal = c.sort_by_piece.new.metal.items in
     let sets = c.in_ok-sets.sets in
-    let are : ArePieceShapes flat net metal = pieces_in_order flat net c.in_ok-metal.metal.items metal c.sort_by_piece.ensures.same c.in_ok-metal.ensures.shapes in
+    let are : ArePieceShapes flat net metal =
+    pieces_in_order flat net c.in_ok-metal.metal.items metal c.sort_by_piece.ensures.same c.in_ok-metal.ensures.shapes in
     let joined : AreJoinedSets flat net sets = c.in_ok-sets.ensures in
     let empty : c.in_ok-build.field-0 ≡ [] = c.in_ok-build.ensures in
     record {

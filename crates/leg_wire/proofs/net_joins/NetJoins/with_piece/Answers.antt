@@ -14,7 +14,8 @@ join_new-requires-clause-places g c =
     let all : c.deref-2.result.now ≡ metal ++ metal_of_piece (length sets) shapes =
     c.deref-2.ensures.value ∙ c.in_ok-push_metal.ensures ∙ ap (λ piece. metal ++ metal_of_piece piece shapes) c.in_ok-piece.ensures.number in
     rw all
-    (places_more metal (metal_of_piece (length sets) shapes) sets c.add.new.self.sets c.self.invariant.places (of_piece (length sets) shapes) c.in_ok-piece.ensures.added)
+    (places_more metal (metal_of_piece (length sets) shapes) sets c.add.new.self.sets c.self.invariant.places
+    (of_piece (length sets) shapes) c.in_ok-piece.ensures.added)
 
 pub invariant_of-result : goal.invariant_of-result
 invariant_of-result g c =
@@ -28,6 +29,12 @@ invariant_of-result g c =
     let joins : JoinsNew (metal ++ metal_of_piece (length sets) shapes) (length c.index_all.new.index) c.add.new.self.sets c.join_new.new.groups.sets =
     rw (← then, ← c.deref-2.ensures.value) c.in_ok-join_new.ensures.joins in
     rw then
-    (kept_more metal shapes c.index_all.new.index c.self.inside.index sets c.add.new.self.sets c.join_new.new.groups.sets lists c.join_new.new.groups.members.items c.self.inside.given
-    c.self.invariant index c.in_ok-piece.ensures.added joins c.in_ok-join_new.ensures.count c.in_ok-join_new.ensures.listed
-    (HasGrown-onward (get_or lists 0 []) (get_or c.add.new.self.members.items 0 []) (get_or c.join_new.new.groups.members.items 0 []) c.in_ok-piece.ensures.grown c.in_ok-join_new.ensures.grown))
+    (kept_more metal shapes c.index_all.new.index c.self.inside.index sets c.add.new.self.sets c.join_new.new.groups.sets lists
+    c.join_new.new.groups.members.items c.self.inside.given c.self.invariant index c.in_ok-piece.ensures.added
+    (record {
+      joins = joins;
+      count = c.in_ok-join_new.ensures.count;
+      groups = c.in_ok-join_new.ensures.listed;
+      longer = HasGrown-onward (get_or lists 0 []) (get_or c.add.new.self.members.items 0 []) (get_or c.join_new.new.groups.members.items 0 [])
+          c.in_ok-piece.ensures.grown c.in_ok-join_new.ensures.grown;
+    }))

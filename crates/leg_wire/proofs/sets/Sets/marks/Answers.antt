@@ -30,4 +30,5 @@ returns g c =
     let parents = c.as_slice-parents.result.now in
     let forest : AreParents parents = rw c.as_slice-parents.ensures.value c.self.invariant in
     let all : c.loop-number.number ≡ length parents = omega arith in
-    rw (← c.self.view_is, ← c.as_slice-parents.ensures.value) (marks_done parents forest c.loop-number.number c.loop-number.marks.items all c.loop-number.invariant)
+    rw (← c.self.view_is, ← c.as_slice-parents.ensures.value)
+    (marks_done parents forest c.loop-number.number c.loop-number.marks.items all c.loop-number.invariant)

@@ -11,4 +11,5 @@ returns-clause-are g c = grind (arith, common_steps)
 pub returns-clause-spelled : goal.returns-clause-spelled
 returns-clause-spelled g c =
     let design = c.args.design.now in
-    all_listed (λ wires. wires.items) (IsWire design.library design.vias false) c.loop-net.lists.items design.nets (returns-clause-are g c) (λ k net some. (c.nets-net-items.ensures.proper.nets.nets.each k net some).wires)
+    all_listed (λ wires. wires.items) (IsWire design.library design.vias false) c.loop-net.lists.items design.nets (returns-clause-are g c)
+    (λ k net some. (c.nets-net-items.ensures.proper.nets.nets.each k net some).wires)

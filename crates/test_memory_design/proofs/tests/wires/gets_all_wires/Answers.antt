@@ -14,9 +14,12 @@ with_all_wires-requires-clause-spelled g c =
     let no_vias : design.vias ≡ [] = sym c.vias.ensures.is ∙ nil_from_length c.vias.result.now c.if-vias-ne0.false in
     let none_wired : wired.vias ≡ [] = sym c.vias-else-vias-ne0.ensures.is ∙ nil_from_length c.vias-else-vias-ne0.result.now c.if-vias-ne0-2.false in
     let some : 0 < length wired.nets = rw (← c.nets-else-special-ne0.ensures.is) (omega (arith, c.if-nets-ne1-2.false)) in
-    let spelled = spelled_of wired c.nets-3.ensures.proper c.index-nets-0-2.result some (rw c.nets-3.ensures.is at c.index-nets-0-2.is) design.library design.vias library (none_wired ∙ sym no_vias) in
+    let spelled =
+    spelled_of wired c.nets-3.ensures.proper c.index-nets-0-2.result some (rw c.nets-3.ensures.is at c.index-nets-0-2.is) design.library design.vias library
+    (none_wired ∙ sym no_vias) in
     let lists : c.push.new.self.items ≡ c.in_ok-wires.wires ∷ [] = search rules in
-    let wires : All (IsWire design.library design.vias false) c.in_ok-wires.wires.items = rw (c.in_ok-wires.ensures.items ∙ c.as_slice-2.ensures ∙ ap (λ net. net.wires) c.net.view_is) spelled in
+    let wires : All (IsWire design.library design.vias false) c.in_ok-wires.wires.items =
+    rw (c.in_ok-wires.ensures.items ∙ c.as_slice-2.ensures ∙ ap (λ net. net.wires) c.net.view_is) spelled in
     rw lists (All-cons (λ w. All (IsWire design.library design.vias false) w.items) c.in_ok-wires.wires [] wires (λ k d less. absurd (omega (arith, less))))
 
 pub with_all_wires-requires-clause-few : goal.with_all_wires-requires-clause-few

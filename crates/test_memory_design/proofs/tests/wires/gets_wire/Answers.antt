@@ -12,7 +12,9 @@ with_wires-requires-clause-spelled g c =
     let no_vias : design.vias ≡ [] = sym c.vias.ensures.is ∙ nil_from_length c.vias.result.now c.if-vias-ne0.false in
     let none_wired : wired.vias ≡ [] = sym c.vias-else-vias-ne0.ensures.is ∙ nil_from_length c.vias-else-vias-ne0.result.now c.if-vias-ne0-2.false in
     let some : 0 < length wired.nets = rw (← c.nets-else-special-ne0.ensures.is) (omega (arith, c.if-nets-ne1-2.false)) in
-    let spelled = spelled_of wired c.nets-3.ensures.proper c.index-nets-0-2.result some (rw c.nets-3.ensures.is at c.index-nets-0-2.is) design.library design.vias library (none_wired ∙ sym no_vias) in
+    let spelled =
+    spelled_of wired c.nets-3.ensures.proper c.index-nets-0-2.result some (rw c.nets-3.ensures.is at c.index-nets-0-2.is) design.library design.vias library
+    (none_wired ∙ sym no_vias) in
     rw (c.in_ok-wires.ensures.items ∙ c.as_slice-2.ensures ∙ ap (λ net. net.wires) c.net.view_is) spelled
 
 pub with_wires-requires-clause-few : goal.with_wires-requires-clause-few

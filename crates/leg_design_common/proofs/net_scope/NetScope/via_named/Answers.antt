@@ -1,7 +1,7 @@
 use Rattle.std.proofs.Common.{sym, arith}
 use Rattle.std.proofs.lemmas.List.{length-take-le}
 use Rattle.leg_design_common.proofs.ViaNumbers.{place_within, named_second}
-use Rattle.leg_design_common.proofs.known.Known.via_named.Goals as goal
+use Rattle.leg_design_common.proofs.net_scope.NetScope.via_named.Goals as goal
 
 pub slice_bounds-before-end : goal.slice_bounds-before-end
 slice_bounds-before-end g c =

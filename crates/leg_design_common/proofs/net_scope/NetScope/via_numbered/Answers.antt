@@ -2,7 +2,7 @@ use Rattle.std.proofs.Common.{◌≡◌, sym, ◌∙◌, length, ◌-◌, slice_
 use Rattle.std.specs.Option.{option_copied}
 use Rattle.leg_lemmas.proofs.Places.{in_first}
 use Rattle.leg_design_common.proofs.ViaNumbers.{in_second, got_is}
-use Rattle.leg_design_common.proofs.known.Known.via_numbered.Goals as goal
+use Rattle.leg_design_common.proofs.net_scope.NetScope.via_numbered.Goals as goal
 
 pub returns-then-number-of_library : goal.returns-then-number-of_library
 returns-then-number-of_library g c =

@@ -2,7 +2,7 @@
 
 ghost use Rattle.std.specs.Prelude.{◌≡◌};
 ghost use Rattle.std.specs.Option.{option_copied};
-ghost use Rattle.leg_grammar.specs.Def.Namespace.{via_numbered, via_named};
+ghost use Rattle.leg_grammar.specs.Def.NetScope.{via_numbered, via_named};
 
 use leg_design_records::{Component, Pin};
 use leg_lex::NamedList;
@@ -12,7 +12,7 @@ use std::marker::Model;
 
 /// The library, and the vias, components and pins of the design.
 #[derive(Drop)]
-pub struct Known<'k, 'a, A: Allocator + Copy> {
+pub struct NetScope<'k, 'a, A: Allocator + Copy> {
     /// The library.
     pub library: &'k Library<'a, A>,
     /// The vias of the section `VIAS`.
@@ -23,15 +23,15 @@ pub struct Known<'k, 'a, A: Allocator + Copy> {
     pub pins: &'k NamedList<'a, Pin<'a, A>, A>,
 }
 
-impl<'k, 'a, A: Allocator + Copy> Model for Known<'k, 'a, A> {
-    ghost use Rattle.leg_grammar.specs.Def.Namespace.{KnownModel};
+impl<'k, 'a, A: Allocator + Copy> Model for NetScope<'k, 'a, A> {
+    ghost use Rattle.leg_grammar.specs.Def.NetScope.{NetScopeModel};
 
-    ghost Value = { KnownModel };
+    ghost Value = { NetScopeModel };
 
     ghost view = { λ k. record { library = k.library.now; vias = k.vias.now; components = k.components.now; pins = k.pins.now } };
 }
 
-impl<'k, 'a, A: Allocator + Copy> Known<'k, 'a, A> {
+impl<'k, 'a, A: Allocator + Copy> NetScope<'k, 'a, A> {
     /// The via of this number: those of the library count first.
     #[tactic(auto, using(leg_lemmas::proofs::Places::in_first, crate::proofs::ViaNumbers::in_second))]
     pub fn via_numbered(&self, number: usize) -> Option<&Via<'a, A>>
