@@ -14,6 +14,7 @@ mod TakenSites
 mod KeysSorted
 mod ListPlaces
 mod Parts
+mod PartPlaces
 mod RowBounds
 mod RowTree
 mod RowPlaces

@@ -1,15 +1,14 @@
 -- The free sites of a row in parts.
-use Rattle.std.proofs.Common.{◌≡◌, ◌↔◌, ◌⊎◌, ℕ, zero, suc, ◌+◌, ◌-◌, ◌<◌, ◌≤◌, min, max, List, [], ◌∷◌, ◌++◌, length, get_or, set, Option, None, Some, slice_get, All, Contains, inl, inr, refl, sym, ap, ◌∙◌, arith, length-set, length-append, append_assoc, get_or-append-add}
-use Rattle.std.specs.List.{insert}
+use Rattle.std.proofs.Common.{◌≡◌, ◌↔◌, ◌⊎◌, ℕ, zero, suc, ◌+◌, ◌-◌, ◌<◌, ◌≤◌, List, [], ◌∷◌, ◌++◌, length, get_or, set, None, Some, slice_get, All, Contains, inl, inr, refl, sym, ap, ◌∙◌, arith, length-set, length-append, append_assoc, get_or-append-add}
+use Rattle.std.specs.List.{insert, filter}
 use Rattle.std.proofs.lemmas.List.{get_or_append_left}
 use Rattle.std.proofs.lemmas.Bool.{cases_lt, cases_eq, cases_order}
 use Rattle.std.proofs.lemmas.List.Elements.{Contains-append_left, Contains-append_right, Contains-append_cases}
-use Rattle.std.proofs.lemmas.Option.{same_Some, none-some, slice_get_within, slice_get-get_or, get_or_from_slice_get, slice_get_read}
+use Rattle.std.proofs.lemmas.Option.{same_Some, none-some, slice_get_within, slice_get_past, slice_get-get_or, get_or_from_slice_get, slice_get_read}
 use Rattle.leg_lemmas.proofs.Places.{set_elsewhere}
 use Rattle.leg_legal_sites.specs.declared.stretch.Stretch.{Stretch}
 use Rattle.leg_legal_sites.specs.Steps.Stretches.{IsWithout, IsFreeSite, AreFreeSites, AreFreeStretches}
-use Rattle.leg_legal_sites.specs.Steps.Parts.{all_of, AreInRow, AreNoMoreThan, AreMeasured, IsPartSpan, HasSpan, LosesSites, AreFewer, AreLostUpTo, AreAllFewer, AreJoinedEnds, IsFreeBefore, HasSpanUpTo, NoneFitsBefore, NoneFitsFrom}
-use Rattle.leg_legal_sites.specs.declared.ends.Ends.{Ends}
+use Rattle.leg_legal_sites.specs.Steps.Parts.{all_of, AreInRow, AreNoMoreThan, AreMeasured, IsPartSpan, LosesSites, AreFewer, AreLostUpTo, AreAllFewer, has_any, DoEndBy, DoBeginBeyond, LieBefore, LieBeyond, NoneFitsBefore, NoneFitsFrom}
 use Rattle.leg_legal_sites.specs.Steps.Nearest.{FitsFrom, FitsUpTo, IsFirstFit, IsLast}
 use Rattle.leg_legal_sites.proofs.OneStretch.{apart_at, long_at, one_stretch}
 use Rattle.leg_legal_sites.proofs.ListPlaces.{slice_get-set_same, slice_get-set_other, set_there}
@@ -159,6 +158,22 @@ module _ (free : List Stretch) (are : AreFreeStretches free) (first last : Stret
     λ both. both.0,
   )
 
+  pub ends_by : (site : ℕ) → last.end ≤ site → DoEndBy free site
+  ends_by site upto =
+      let long = long_at free are (length free - 1) last at_last in record {
+        one = last.from;
+        there = record { number = length free - 1; stretch = last; there = at_last; above = omega arith; below = long };
+        before = λ k free_k. let below = below_last k free_k in omega (arith, below, upto);
+      }
+
+  pub begins_beyond : (site : ℕ) → site < first.from → DoBeginBeyond free site
+  begins_beyond site under =
+      let long = long_at free are 0 first at_first in record {
+        one = first.from;
+        there = record { number = 0; stretch = first; there = at_first; above = omega arith; below = long };
+        beyond = λ k free_k. let above = from_first k free_k in omega (arith, above, under);
+      }
+
   pub span_is : (most : ℕ) → AreNoMoreThan most free → IsPartSpan free (record { from = first.from; end = last.end; longest = most })
   span_is most longest =
       let begins = long_at free are 0 first at_first in
@@ -260,8 +275,31 @@ module _ (ps : List (List Stretch)) (i : ℕ) (p a b : List Stretch) (at : slice
       let is = insert_is ps i p a b at in
       rw is (by_number (cut_at ps i a b) (in_row_cut ps i p a b at both are (one_by_one ps in_row)))
 
+-- parts before a place that lie before the sites have none to lose
+pub lost_none : (from end first : ℕ) (parts : List (List Stretch)) → LieBefore parts first from → AreLostUpTo from end first parts parts
+lost_none from end first parts before = record {
+  count = refl;
+  same = λ n upto. refl;
+  each = λ n p below at. (p, at, λ k. (λ site. (site, inl (before n k p below at site)), λ both. both.0));
+}
+
 -- parts that have lost sites
 module _ (from end : ℕ) (old new : List (List Stretch)) where
+  -- nor have those from a place on that lie beyond the sites
+  pub lost_rest : (last i : ℕ) → last ≤ i → LieBeyond old last end → AreLostUpTo from end i old new → AreLostUpTo from end (length old) old new
+  lost_rest last i upto beyond lost = record {
+    count = lost.count;
+    same = λ n late. slice_get_past new n (let count = lost.count in omega (arith, late, count)) ∙ sym (slice_get_past old n late);
+    each = λ n p below at. elim (cases_lt n i) [
+      | inl early ↦ lost.each n p early at
+      | inr late ↦ (
+        p,
+        lost.same n late ∙ at,
+        λ k. (λ site. (site, inr (let far = beyond n k p (omega (arith, upto, late)) at site in omega (arith, far))), λ both. both.0),
+      )
+    ];
+  }
+
   -- what a part was that has lost sites
   lost_part : (i n : ℕ) (q : List Stretch) → AreLostUpTo from end i old new → n < i → slice_get new n ≡ Some q
       → (p : List Stretch) × (slice_get old n ≡ Some p) × LosesSites p from end q
@@ -398,110 +436,6 @@ module _ (parts : List (List Stretch)) (many i : ℕ) (p : List Stretch) (at : s
     | inr differ ↦ none n first q (omega (arith, upto, differ)) there fits
   ]
 
--- the first and the last free site of all parts
-module _ (parts : List (List Stretch)) where
-  later_in : (i k : ℕ) → IsFreeBefore parts i k → IsFreeBefore parts (i + 1) k
-  later_in i k at = record { number = at.number; before = omega (arith, at.before); part = at.part; there = at.there; site = at.site }
-
-  earlier_or : (i k : ℕ) (p : List Stretch) → slice_get parts i ≡ Some p → IsFreeBefore parts (i + 1) k → IsFreeBefore parts i k ⊎ IsFreeSite p k
-  earlier_or i k p at has = elim (cases_lt has.number i) [
-    | inl before ↦ inl (record { number = has.number; before = before; part = has.part; there = has.there; site = has.site })
-    | inr late ↦
-        let same : has.number ≡ i = omega (arith, late, has.before) in
-        let one : has.part ≡ p = same_Some has.part p (sym has.there ∙ ap (slice_get parts) same ∙ at) in
-        inr (rw one at has.site)
-  ]
-
-  here_in : (i k : ℕ) (p : List Stretch) → slice_get parts i ≡ Some p → IsFreeSite p k → IsFreeBefore parts (i + 1) k
-  here_in i k p at site = record { number = i; before = omega arith; part = p; there = at; site = site }
-
-  none_longest : (most : ℕ) (p : List Stretch) → ((k : ℕ) → ¬ IsFreeSite p k) → AreNoMoreThan most p
-  none_longest most p none many first sites = elim (cases_eq many 0) [
-    | inl zero_many ↦ omega (arith, zero_many)
-    | inr some ↦ absurd (none first (sites first (omega arith) (omega (arith, some))))
-  ]
-
-  longest_or : (i most : ℕ) (p : List Stretch) → slice_get parts i ≡ Some p → AreNoMoreThan most p
-      → ((n : ℕ) (q : List Stretch) → n < i → slice_get parts n ≡ Some q → AreNoMoreThan most q) → (n : ℕ) (q : List Stretch) → n < i + 1
-      → slice_get parts n ≡ Some q → AreNoMoreThan most q
-  longest_or i most p at here before n q upto there = elim (cases_lt n i) [
-    | inl earlier ↦ before n q earlier there
-    | inr late ↦
-        let same : n ≡ i = omega (arith, upto, late) in
-        let one : q ≡ p = same_Some q p (sym there ∙ ap (slice_get parts) same ∙ at) in
-        rw one here
-  ]
-
-  more_longest : (least most : ℕ) (p : List Stretch) → least ≤ most → AreNoMoreThan least p → AreNoMoreThan most p
-  more_longest least most p upto longest many first sites = let long = longest many first sites in omega (arith, long, upto)
-
-  pub span_more : (i : ℕ) (p : List Stretch) → slice_get parts i ≡ Some p → (a b r : Option Ends) → HasSpanUpTo parts i a → HasSpan p b → AreJoinedEnds a b r
-      → HasSpanUpTo parts (i + 1) r
-  span_more i p at None None r none here is = rw is (λ k has. elim (earlier_or i k p at has) [
-    | inl earlier ↦ none k earlier
-    | inr site ↦ here k site
-  ])
-  span_more i p at None (Some b) r none here is = rw is (record {
-    first = here_in i b.from p at here.first;
-    last = here_in i (b.end - 1) p at here.last;
-    some = here.some;
-    above = λ k has. elim (earlier_or i k p at has) [ inl earlier ↦ absurd (none k earlier) | inr site ↦ here.above k site ];
-    below = λ k has. elim (earlier_or i k p at has) [ inl earlier ↦ absurd (none k earlier) | inr site ↦ here.below k site ];
-    longest =
-        longest_or i b.longest p at here.longest (λ n q before there. none_longest b.longest q
-        (λ k site. none k (record { number = n; before = before; part = q; there = there; site = site })));
-  })
-  span_more i p at (Some a) None r so_far here is = rw is (record {
-    first = later_in i a.from so_far.first;
-    last = later_in i (a.end - 1) so_far.last;
-    some = so_far.some;
-    above = λ k has. elim (earlier_or i k p at has) [ inl earlier ↦ so_far.above k earlier | inr site ↦ absurd (here k site) ];
-    below = λ k has. elim (earlier_or i k p at has) [ inl earlier ↦ so_far.below k earlier | inr site ↦ absurd (here k site) ];
-    longest = longest_or i a.longest p at (none_longest a.longest p here) so_far.longest;
-  })
-  span_more i p at (Some a) (Some b) r so_far here is = rw is (record {
-    first = elim (cases_lt b.from a.from) [
-      | inl lower ↦ let e : min a.from b.from ≡ b.from = omega (arith, lower) in rw e (here_in i b.from p at here.first)
-      | inr upto ↦ let e : min a.from b.from ≡ a.from = omega (arith, upto) in rw e (later_in i a.from so_far.first)
-    ];
-    last = elim (cases_lt a.end b.end) [
-      | inl higher ↦ let e : max a.end b.end ≡ b.end = omega (arith, higher) in rw e (here_in i (b.end - 1) p at here.last)
-      | inr upto ↦ let e : max a.end b.end ≡ a.end = omega (arith, upto) in rw e (later_in i (a.end - 1) so_far.last)
-    ];
-    some = let more = so_far.some in omega (arith, more);
-    above = λ k has. elim (earlier_or i k p at has) [
-      | inl earlier ↦ let from = so_far.above k earlier in omega (arith, from)
-      | inr site ↦ let from = here.above k site in omega (arith, from)
-    ];
-    below = λ k has. elim (earlier_or i k p at has) [
-      | inl earlier ↦ let end = so_far.below k earlier in omega (arith, end)
-      | inr site ↦ let end = here.below k site in omega (arith, end)
-    ];
-    longest = longest_or i (max a.longest b.longest) p at (more_longest b.longest (max a.longest b.longest) p (omega arith) here.longest)
-        (λ n q before there. more_longest a.longest (max a.longest b.longest) q (omega arith) (so_far.longest n q before there));
-  })
-
-  before_all : (k : ℕ) → IsFreeSite (all_of parts) k → IsFreeBefore parts (length parts) k
-  before_all k site =
-      let at = in_part parts k site in
-      record { number = at.number; before = slice_get_within parts at.number at.part at.there; part = at.part; there = at.there; site = at.site }
-
-  pub span_all : AreInRow parts → (ends : Option Ends) → HasSpanUpTo parts (length parts) ends → HasSpan (all_of parts) ends
-  span_all in_row None none = λ k site. none k (before_all k site)
-  span_all in_row (Some e) span = record {
-    first = from_part parts e.from span.first.number span.first.part span.first.there span.first.site;
-    last = from_part parts (e.end - 1) span.last.number span.last.part span.last.there span.last.site;
-    some = span.some;
-    above = λ k site. span.above k (before_all k site);
-    below = λ k site. span.below k (before_all k site);
-    longest = λ many first sites. elim (cases_eq many 0) [
-      | inl zero_many ↦ omega (arith, zero_many)
-      | inr some ↦
-          let one = one_part parts in_row many first (omega (arith, some)) sites in
-          span.longest one.number one.part (slice_get_within parts one.number one.part one.there) one.there many first one.sites
-    ];
-  }
-
 -- the two halves of a list of stretches
 module _ (most : ℕ) (a b : List Stretch) (whole : AreMeasured most (a ++ b)) where
   pub left_measured : AreMeasured most a
@@ -531,6 +465,23 @@ module _ (most : ℕ) (a b : List Stretch) (whole : AreMeasured most (a ++ b)) w
     };
     longest = λ many first sites. whole.longest many first (λ k above below. free_right a b k (sites k above below));
   }
+
+-- parts without a stretch are let go
+pub all_of_some : (parts : List (List Stretch)) → all_of (filter has_any parts) ≡ all_of parts
+all_of_some [] = refl
+all_of_some ([] ∷ parts) = all_of_some parts
+all_of_some ((s ∷ p) ∷ parts) = ap (λ l. (s ∷ p) ++ l) (all_of_some parts)
+
+some_in_row : (parts : List (List Stretch)) → InRow parts → InRow (filter has_any parts)
+some_in_row [] in_row = tt
+some_in_row ([] ∷ parts) in_row = some_in_row parts in_row.1
+some_in_row ((s ∷ p) ∷ parts) in_row = (
+  λ k m first rest. in_row.0 k m first (let same = all_of_some parts in rw same at rest),
+  some_in_row parts in_row.1,
+)
+
+pub in_row_some : (parts : List (List Stretch)) → AreInRow parts → AreInRow (filter has_any parts)
+in_row_some parts in_row = by_number (filter has_any parts) (some_in_row parts (one_by_one parts in_row))
 
 -- one part has fewer sites
 pub set_fewer : (ps : List (List Stretch)) (i : ℕ) (p a : List Stretch) → slice_get ps i ≡ Some p → AreFewer p a → AreAllFewer ps (set ps i a)

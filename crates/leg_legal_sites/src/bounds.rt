@@ -4,11 +4,9 @@ ghost use Rattle.std.specs.Prelude.{◌≡◌, ◌+ℤ◌, ◌*ℤ◌, pos};
 ghost use Rattle.leg_geom.specs.Plane.{IsCoordinate};
 ghost use Rattle.leg_lib_records.specs.Measure.{HasArea};
 ghost use Rattle.leg_legal_sites.specs.Steps.SiteBounds.{DoBound};
-ghost use Rattle.leg_legal_sites.specs.Steps.Parts.{all_of, AreInRow};
 ghost use Rattle.leg_legal_sites.specs.Steps.Bounds.{AreWithinBounds, DoCover, DoBoundAlike, AreOfBoth};
 
-use crate::free_sites::FreeSites;
-use crate::row_parts::ends_of;
+use crate::row_parts::RowParts;
 use leg_design_records::Row;
 use leg_lib_records::Extent;
 use std::alloc::Allocator;
@@ -62,13 +60,12 @@ impl Bounds {
         number: usize,
         row: &Row<'_>,
         size: &Extent,
-        parts: &[FreeSites<A>],
+        sites: &RowParts<A>,
     ) -> Bounds
-        requires in_row { AreInRow parts.now }
-        requires within { AreWithinBounds row.now size.now (all_of parts.now) }
-        ensures { DoBound result number row.now size.now (all_of parts.now) }
+        requires { AreWithinBounds row.now size.now sites.now }
+        ensures { DoBound result number row.now size.now sites.now }
     {
-        let Some(ends) = ends_of(parts) else {
+        let Some(ends) = sites.ends() else {
             return Bounds::of_nothing();
         };
         let left = edge(row, size, ends.from);
@@ -93,14 +90,13 @@ impl Bounds {
         &self,
         row: &Row<'_>,
         size: &Extent,
-        parts: &[FreeSites<A>],
+        sites: &RowParts<A>,
     ) -> Bounds
-        requires in_row { AreInRow parts.now }
         requires area { HasArea size.now }
-        requires within { AreWithinBounds row.now size.now (all_of parts.now) }
-        ensures { DoBoundAlike self.now row.now size.now (all_of parts.now) result }
+        requires within { AreWithinBounds row.now size.now sites.now }
+        ensures { DoBoundAlike self.now row.now size.now sites.now result }
     {
-        let Some(ends) = ends_of(parts) else {
+        let Some(ends) = sites.ends() else {
             return Bounds::of_nothing();
         };
         let left = edge(row, size, ends.from);

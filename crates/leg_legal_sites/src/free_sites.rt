@@ -2,7 +2,7 @@
 
 ghost use Rattle.std.specs.Prelude.{◌≡◌, ◌++◌, IsTrue, IfOk, OnOk, OnErr};
 ghost use Rattle.leg_legal_sites.specs.Steps.Stretches.{AreFreeStretches, AreSitesBetween, IsWithout};
-ghost use Rattle.leg_legal_sites.specs.Steps.Parts.{AreNoMoreThan, LosesSites, HasSpan};
+ghost use Rattle.leg_legal_sites.specs.Steps.Parts.{AreNoMoreThan, LosesSites, HasSpan, DoEndBy, DoBeginBeyond, has_any};
 
 use crate::ends::Ends;
 use crate::stretch::Stretch;
@@ -88,6 +88,35 @@ impl<A: Allocator> FreeSites<A> {
             return true;
         }
         free[free.len() - 1].end <= from
+    }
+
+    /// Whether a site is free, and all that are free lie before this one.
+    pub(crate) fn end_by(&self, site: u64) -> bool
+        ensures { IsTrue result → DoEndBy self.now site }
+    {
+        let free = self.stretches.as_slice();
+        if free.is_empty() {
+            return false;
+        }
+        free[free.len() - 1].end <= site
+    }
+
+    /// Whether a site is free, and all that are free lie beyond this one.
+    pub(crate) fn begin_beyond(&self, site: u64) -> bool
+        ensures { IsTrue result → DoBeginBeyond self.now site }
+    {
+        let free = self.stretches.as_slice();
+        if free.is_empty() {
+            return false;
+        }
+        site < free[0].from
+    }
+
+    /// Whether any site is free.
+    pub(crate) fn has_sites(&self) -> bool
+        ensures { result ≡ has_any self.now }
+    {
+        !self.stretches.is_empty()
     }
 
     /// The first and the last free site, and how many are free side by side at most, if any is free.

@@ -5,7 +5,11 @@
 //!
 //! The free sites of a row are a list of stretches, in parts of at most some hundred (`RowParts`), so that a split moves no
 //! more than one part, and each part has the length of its longest stretch, so that a search passes a part without a long
-//! enough one. In a row a search looks at the last free sites up to the nearest site and at the first ones from it on.
+//! enough one. Each 32 parts, by their places, are a group, which has that length for all of them, so that a search passes
+//! them at once. The parts that a box meets, and the one at which a search begins, are found by bisection; so that it leads
+//! there, parts that have lost all their sites are let go. That a part is cut or let go makes all groups of the row anew, and
+//! any other change only those of the parts that have changed. In a row a search looks at the last free sites up to the
+//! nearest site and at the first ones from it on.
 //!
 //! `FreeRows` has a tree over the rows, ordered by site, y and x, and lists of free sites at its nodes: the list of a node
 //! is that of all rows beneath it, which are of one site and begin at one x, so rows that repeat one another cost one list
@@ -36,6 +40,10 @@ mod free_sites;
 mod near_rows;
 mod nearest;
 mod only_row;
+mod part_ends;
+mod part_groups;
+mod part_places;
+mod part_search;
 mod reach;
 mod row_keys;
 mod row_parts;
@@ -47,6 +55,7 @@ mod rows_taken;
 mod shared_lists;
 mod site_edges;
 mod stretch;
+mod take_parts;
 mod take_sites;
 
 pub use candidate::{Wanted, fits};

@@ -125,7 +125,7 @@ fn best_of_row<A: Allocator + Copy>(
         return None;
     }
     let pitch = pitch_of(row, wanted);
-    let first = nearest(sites.parts(), wanted.many, &pitch)?;
+    let first = nearest(sites, wanted.many, &pitch)?;
     Some(Candidate {
         distance: x_away(&pitch, first) + y_away(row, wanted),
         turned: is_turned(row.orient, wanted),

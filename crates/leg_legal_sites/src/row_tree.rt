@@ -4,7 +4,6 @@
 //! leaf of the row at place k of the order is node `order.len() + k`.
 
 ghost use Rattle.std.specs.Prelude.{◌≡◌, ◌*◌, ◌<◌, ◌≤◌, length, IfOk};
-ghost use Rattle.leg_legal_sites.specs.Steps.Parts.{all_of, AreInRow};
 ghost use Rattle.leg_legal_sites.specs.Steps.RowOrder.{IsRowOrder};
 ghost use Rattle.leg_legal_sites.specs.Steps.FreeListSharing.{row_lists};
 ghost use Rattle.leg_legal_sites.specs.Steps.FreeLists.{AreInDie, DoBoundRow, DoFit};
@@ -13,7 +12,6 @@ ghost use Rattle.leg_legal_sites.specs.Steps.RowTree.{AreLeavesUpTo, AreJoinedFr
 ghost use Rattle.leg_legal_sites.specs.Steps.SharedLists.{own_list, AreLeafLists};
 
 use crate::bounds::Bounds;
-use crate::free_sites::FreeSites;
 use crate::row_keys::RowKey;
 use crate::row_parts::RowParts;
 use leg_design_records::Design;
@@ -69,24 +67,23 @@ fn bounds_at<A: Allocator + Copy>(
     let Some(list) = &lists[node] else {
         return Bounds::of_nothing();
     };
-    bounds_of(design, number, list.parts())
+    bounds_of(design, number, list)
 }
 
 /// What bounds these free sites of the row of this number. (That a site has a height is known once it is asked.)
 fn bounds_of<A: Allocator + Copy>(
     design: &Design<'_, A>,
     number: usize,
-    parts: &[FreeSites<A>],
+    sites: &RowParts<A>,
 ) -> Bounds
     requires there { number < length design.now.rows }
-    requires in_row { AreInRow parts.now }
-    requires inside { AreInDie design.now number (all_of parts.now) }
-    ensures { DoBoundRow design.now result number (all_of parts.now) }
+    requires inside { AreInDie design.now number sites.now }
+    ensures { DoBoundRow design.now result number sites.now }
 {
     let row = &design.rows()[number];
     let size = &design.library().sites()[row.site].size;
     let _height = size.height();
-    Bounds::of_row(number, row, size, parts)
+    Bounds::of_row(number, row, size, sites)
 }
 
 /// Makes the nodes that aren't leaves, from the last one on to the first, where there are so many leaves.

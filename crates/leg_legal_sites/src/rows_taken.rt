@@ -166,7 +166,7 @@ fn bounds_of_list<A: Allocator + Copy>(
     ensures { DoBoundAlike bounds.now row.now size.now (unwrap_or list.now []) result }
 {
     match list {
-        Some(sites) => bounds.with_sites(row, size, sites.parts()),
+        Some(sites) => bounds.with_sites(row, size, sites),
         None => Bounds::of_nothing(),
     }
 }

@@ -1,7 +1,8 @@
 -- The free stretches of a row in parts, one after the other.
-use Rattle.std.specs.Prelude.{◌≡◌, ◌↔◌, ◌⊎◌, ℕ, ◌+◌, ◌-◌, ◌<◌, ◌≤◌, min, max, List, [], ◌∷◌, ◌++◌, length, Option, None, Some, slice_get}
+use Rattle.std.specs.Prelude.{◌≡◌, ◌↔◌, ◌⊎◌, ℕ, ◌+◌, ◌-◌, ◌*◌, ◌<◌, ◌≤◌, Bool, false, true, List, [], ◌∷◌, ◌++◌, length, Option, None, Some, slice_get}
 use Rattle.leg_legal_sites.specs.declared.stretch.Stretch.{Stretch}
 use Rattle.leg_legal_sites.specs.declared.ends.Ends.{Ends}
+use Rattle.leg_legal_sites.specs.declared.part_groups.TheConstants.{GROUP}
 use Rattle.leg_legal_sites.specs.Steps.Stretches.{IsFreeSite, AreFreeSites, AreFreeStretches}
 use Rattle.leg_legal_sites.specs.Steps.Nearest.{FitsFrom, FitsUpTo}
 
@@ -57,33 +58,76 @@ pub record AreLostUpTo (from end i : ℕ) (old new : List (List Stretch)) : Type
 abbrev pub AreAllFewer : List (List Stretch) → List (List Stretch) → Type 0
 AreAllFewer old new = (n : ℕ) (q : List Stretch) → slice_get new n ≡ Some q → (p : List Stretch) × (slice_get old n ≡ Some p) × AreFewer p q
 
--- the earlier of two first sites, the later of two last ones and the more sites side by side, of what there is
-abbrev pub AreJoinedEnds : Option Ends → Option Ends → Option Ends → Type 0
-AreJoinedEnds None b r = r ≡ b
-AreJoinedEnds (Some a) None r = r ≡ Some a
-AreJoinedEnds (Some a) (Some b) r = r ≡ Some (record { from = min a.from b.from; end = max a.end b.end; longest = max a.longest b.longest })
+-- a site is free, and each that is free lies before this one
+pub record DoEndBy (free : List Stretch) (site : ℕ) : Type 0 where
+  pub one : ℕ
+  pub there : IsFreeSite free one
+  pub before : (k : ℕ) → IsFreeSite free k → k < site
 
--- a site is free in a part before a number
-pub record IsFreeBefore (parts : List (List Stretch)) (i k : ℕ) : Type 0 where
-  pub number : ℕ
-  pub before : number < i
-  pub part : List Stretch
-  pub there : slice_get parts number ≡ Some part
-  pub site : IsFreeSite part k
+-- a site is free, and each that is free lies beyond this one
+pub record DoBeginBeyond (free : List Stretch) (site : ℕ) : Type 0 where
+  pub one : ℕ
+  pub there : IsFreeSite free one
+  pub beyond : (k : ℕ) → IsFreeSite free k → site < k
 
--- the first and the last free site of the parts before a number, and how many are free side by side in one of them at most
-pub record IsSpanUpTo (parts : List (List Stretch)) (i : ℕ) (ends : Ends) : Type 0 where
-  pub first : IsFreeBefore parts i ends.from
-  pub last : IsFreeBefore parts i (ends.end - 1)
-  pub some : 1 ≤ ends.end
-  pub above : (k : ℕ) → IsFreeBefore parts i k → ends.from ≤ k
-  pub below : (k : ℕ) → IsFreeBefore parts i k → k < ends.end
-  pub longest : (n : ℕ) (p : List Stretch) → n < i → slice_get parts n ≡ Some p → AreNoMoreThan ends.longest p
+-- the free sites of each part before a place lie before this one
+abbrev pub LieBefore : List (List Stretch) → ℕ → ℕ → Type 0
+LieBefore parts place site = (n k : ℕ) (p : List Stretch) → n < place → slice_get parts n ≡ Some p → IsFreeSite p k → k < site
 
--- those, or that none is free in them
-abbrev pub HasSpanUpTo : List (List Stretch) → ℕ → Option Ends → Type 0
-HasSpanUpTo parts i None = (k : ℕ) → ¬ IsFreeBefore parts i k
-HasSpanUpTo parts i (Some ends) = IsSpanUpTo parts i ends
+-- the free sites of each part from a place on lie beyond this one
+abbrev pub LieBeyond : List (List Stretch) → ℕ → ℕ → Type 0
+LieBeyond parts place site = (n k : ℕ) (p : List Stretch) → place ≤ n → slice_get parts n ≡ Some p → IsFreeSite p k → site < k
+
+-- no part from one place up to another has more free sites side by side than this
+abbrev pub AreNoLonger : List (List Stretch) → ℕ → ℕ → ℕ → Type 0
+AreNoLonger parts from end most = (n : ℕ) (p : List Stretch) → from ≤ n → n < end → slice_get parts n ≡ Some p → AreNoMoreThan most p
+
+-- there is a number for each of some groups of parts, and no part of the group has more free sites side by side
+pub record AreGroups (parts : List (List Stretch)) (groups : List ℕ) : Type 0 where
+  pub count : GROUP * length groups ≤ length parts
+  pub each : (group most : ℕ) → slice_get groups group ≡ Some most → AreNoLonger parts (GROUP * group) (GROUP * group + GROUP) most
+
+-- the parts of a row, and their groups
+pub record AreParts (parts : List (List Stretch)) (groups : List ℕ) : Type 0 where
+  pub in_row : AreInRow parts
+  pub grouped : AreGroups parts groups
+
+-- a group begins at this place, and each of its parts has fewer free sites side by side than so many
+pub record IsShort (groups : List ℕ) (place many : ℕ) : Type 0 where
+  pub group : ℕ
+  pub begins : place ≡ GROUP * group
+  pub most : ℕ
+  pub there : slice_get groups group ≡ Some most
+  pub fewer : most < many
+
+-- the same sites are free
+abbrev pub HaveSameSites : List Stretch → List Stretch → Type 0
+HaveSameSites old new = (k : ℕ) → IsFreeSite new k ↔ IsFreeSite old k
+
+-- a list has a stretch
+abbrev pub has_any : List Stretch → Bool
+has_any [] = false
+has_any (s ∷ free) = true
+
+-- the first free site, or that none is free
+abbrev pub HasFirst : List Stretch → Option Ends → Type 0
+HasFirst free None = (k : ℕ) → ¬ IsFreeSite free k
+HasFirst free (Some ends) = IsFreeSite free ends.from × ((k : ℕ) → IsFreeSite free k → ends.from ≤ k)
+
+-- the last free site lies before the end
+pub record IsLastBefore (free : List Stretch) (end : ℕ) : Type 0 where
+  pub some : 1 ≤ end
+  pub last : IsFreeSite free (end - 1)
+  pub below : (k : ℕ) → IsFreeSite free k → k < end
+
+-- that, or that none is free
+abbrev pub HasLast : List Stretch → Option Ends → Type 0
+HasLast free None = (k : ℕ) → ¬ IsFreeSite free k
+HasLast free (Some ends) = IsLastBefore free ends.end
+
+-- no site is free in a part from one place up to another
+abbrev pub AreNoneFree : List (List Stretch) → ℕ → ℕ → Type 0
+AreNoneFree parts from end = (n k : ℕ) (p : List Stretch) → from ≤ n → n < end → slice_get parts n ≡ Some p → ¬ IsFreeSite p k
 
 -- no part before a number has so many free sites side by side from the least on
 abbrev pub NoneFitsBefore : List (List Stretch) → ℕ → ℕ → ℕ → Type 0

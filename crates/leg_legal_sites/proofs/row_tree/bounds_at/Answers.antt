@@ -1,8 +1,7 @@
 -- The node's own list is bounded.
-use Rattle.std.proofs.Common.{◌≡◌, [], sym, ap, ◌∙◌}
+use Rattle.std.proofs.Common.{◌≡◌, [], ap, ◌∙◌}
 use Rattle.std.specs.Prelude.{unwrap_or}
 use Rattle.std.proofs.lemmas.Option.{none-some}
-use Rattle.leg_legal_sites.specs.Steps.Parts.{all_of}
 use Rattle.leg_legal_sites.specs.Steps.SharedLists.{own_list}
 use Rattle.leg_legal_sites.proofs.SharedLists.{node_read}
 use Rattle.leg_legal_sites.proofs.RowBounds.{bound_nothing}
@@ -17,14 +16,12 @@ returns-in_default g c row site at =
 
 pub bounds_of-requires-clause-inside : goal.bounds_of-requires-clause-inside
 bounds_of-requires-clause-inside g c =
-    let had : own_list c.args.lists.now c.args.node ≡ all_of c.parts.result.now =
-    ap (λ o. unwrap_or o []) (node_read c.args.lists.now c.args.node c.requires.node c.index-lists-node.result c.index-lists-node.is ∙ c.in-Some.is)
-    ∙ sym c.parts.ensures.is in
+    let had : own_list c.args.lists.now c.args.node ≡ c.in-Some.list =
+    ap (λ o. unwrap_or o []) (node_read c.args.lists.now c.args.node c.requires.node c.index-lists-node.result c.index-lists-node.is ∙ c.in-Some.is) in
     rw had at c.requires.inside
 
 pub returns : goal.returns
 returns g c =
-    let had : own_list c.args.lists.now c.args.node ≡ all_of c.parts.result.now =
-    ap (λ o. unwrap_or o []) (node_read c.args.lists.now c.args.node c.requires.node c.index-lists-node.result c.index-lists-node.is ∙ c.in-Some.is)
-    ∙ sym c.parts.ensures.is in
+    let had : own_list c.args.lists.now c.args.node ≡ c.in-Some.list =
+    ap (λ o. unwrap_or o []) (node_read c.args.lists.now c.args.node c.requires.node c.index-lists-node.result c.index-lists-node.is ∙ c.in-Some.is) in
     rw had c.bounds_of.ensures

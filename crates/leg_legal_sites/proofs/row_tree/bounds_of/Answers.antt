@@ -5,13 +5,12 @@ use Rattle.leg_lemmas.proofs.Places.{all_at}
 use Rattle.leg_lib_records.specs.Measure.{IsExtent}
 use Rattle.leg_design_records.specs.WellFormedParts.{IsRow}
 use Rattle.leg_legal_sites.specs.Steps.SiteBounds.{DoBound}
-use Rattle.leg_legal_sites.specs.Steps.Parts.{all_of}
 use Rattle.leg_legal_sites.proofs.RowBounds.{within_die}
 use Rattle.leg_legal_sites.proofs.RowsTaken.{same_row}
 use Rattle.leg_legal_sites.proofs.row_tree.bounds_of.Goals as goal
 
-pub of_row-requires-clause-within : goal.of_row-requires-clause-within
-of_row-requires-clause-within g c =
+pub of_row-requires : goal.of_row-requires
+of_row-requires g c =
     let design = c.args.design.now in
     let number = c.args.number in
     let row = c.index-rows-number.result in
@@ -24,7 +23,7 @@ of_row-requires-clause-within g c =
     let there : slice_get design.library.sites row.site ≡ Some site =
     rw (← same) (slice_get_read c.sites.result.now _ row.site site refl within c.index-sites-row.is) in
     let extent : IsExtent site.size = rw (← c.index-sites-row.is) at c.height-height.ensures.proper in
-    rw (← c.index-sites-row.is) (within_die number row site.size extent.area design.die c.rows.ensures.proper.die (all_of c.args.parts.now)
+    rw (← c.index-sites-row.is) (within_die number row site.size extent.area design.die c.rows.ensures.proper.die c.args.sites.now
     (c.requires.inside row site (record { there = at; sited = there })))
 
 pub returns : goal.returns
@@ -40,5 +39,5 @@ returns g c =
     let within : row.site < length c.sites.result.now = rw same (slice_get_within design.library.sites row.site is_row.site is_row.there) in
     let there : slice_get design.library.sites row.site ≡ Some site =
     rw (← same) (slice_get_read c.sites.result.now _ row.site site refl within c.index-sites-row.is) in
-    let bound : DoBound c.of_row.result number row site.size (all_of c.args.parts.now) = rw (← c.index-sites-row.is) at c.of_row.ensures in
+    let bound : DoBound c.of_row.result number row site.size c.args.sites.now = rw (← c.index-sites-row.is) at c.of_row.ensures in
     λ other its is. let one = same_row design number row other site its (record { there = at; sited = there }) is in rw (one.0, one.1) bound

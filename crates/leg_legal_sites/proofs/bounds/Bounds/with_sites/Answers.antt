@@ -4,14 +4,13 @@ use Rattle.std.specs.Int.{saturate_signed}
 use Rattle.std.proofs.lemmas.Int.{ints}
 use Rattle.leg_geom.specs.Plane.{IsCoordinate}
 use Rattle.leg_geom.proofs.Coordinates.{sum_fits}
-use Rattle.leg_legal_sites.specs.Steps.Parts.{all_of}
 use Rattle.leg_legal_sites.proofs.MetSites.{coordinate_passed}
 use Rattle.leg_legal_sites.proofs.RowBounds.{bound_nothing, bound_alike, saturated_upto}
 use Rattle.leg_legal_sites.proofs.bounds.Bounds.with_sites.Goals as goal
 
 pub returns-in_default : goal.returns-in_default
 returns-in_default g c number other same low fits =
-    bound_nothing number other c.args.size.now c.of_nothing.result (all_of c.args.parts.now) c.in_default.ensures
+    bound_nothing number other c.args.size.now c.of_nothing.result c.args.sites.now c.in_default.ensures
 
 pub edge-left-requires : goal.edge-left-requires
 edge-left-requires g c = c.requires.within.left c.in-Some.ends.from c.in-Some.ensures.first
@@ -40,7 +39,7 @@ returns g c =
     let sum_passed : to_z w64 (of_z w64 c.saturating_add.result) ≡ c.saturating_add.result = search rules in
     let sum : c.saturating_add.result ≡ saturate_signed w64 ((row.at.x +ℤ pos ends.from *ℤ size.width) +ℤ old.low) =
     c.saturating_add.ensures ∙ rw (low_passed, c.edge-left.ensures, l_passed) refl in
-    bound_alike 0 row size c.requires.area (all_of c.args.parts.now) ends c.in-Some.ensures old _ (record {
+    bound_alike 0 row size c.requires.area c.args.sites.now ends c.in-Some.ensures old _ (record {
       least_row = refl;
       least_site = refl;
       most_site = refl;

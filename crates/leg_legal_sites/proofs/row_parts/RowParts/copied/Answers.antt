@@ -1,7 +1,7 @@
 -- One more part, and all of them.
 use Rattle.std.proofs.Common.{◌≡◌, ap, ◌∙◌}
 use Rattle.std.proofs.lemmas.List.{take_all}
-use Rattle.leg_legal_sites.specs.Steps.Parts.{all_of, AreInRow}
+use Rattle.leg_legal_sites.specs.Steps.Parts.{all_of, AreInRow, AreGroups}
 use Rattle.leg_legal_sites.proofs.RowPlaces.{one_more_taken}
 use Rattle.leg_legal_sites.proofs.row_parts.RowParts.copied.Goals as goal
 
@@ -14,8 +14,9 @@ pub invariant_of-result : goal.invariant_of-result
 invariant_of-result g c =
     let items = c.deref-part-items.result.now in
     let all : c.loop-part.parts.items ≡ items = c.loop-part.invariant ∙ take_all c.loop-part.part-index items c.loop-part-test.false in
-    let in_row : AreInRow items = rw c.deref-part-items.ensures.value c.self.invariant in
-    rw all in_row
+    let in_row : AreInRow items = rw c.deref-part-items.ensures.value c.self.invariant.in_row in
+    let grouped : AreGroups c.loop-part.parts.items c.in_ok-groups.groups.items = rw c.as_slice.ensures.value at c.in_ok-groups.ensures in
+    record { in_row = rw all in_row; grouped = grouped }
 
 pub returns : goal.returns
 returns g c =
