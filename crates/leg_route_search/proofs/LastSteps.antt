@@ -13,9 +13,8 @@ use Rattle.leg_route_search.specs.Steps.Side.{opposite}
 use Rattle.leg_route_search.specs.Steps.SideSteps.{IsStep, IsStepTo, IsStepIn}
 use Rattle.leg_rules.specs.Route.Walk.{Walk, IsShortest}
 use Rattle.leg_rules.specs.Route.Walk.Walk.{here, on}
-use Rattle.leg_route_search.specs.Steps.Marks.{AreUnseen}
 use Rattle.leg_route_search.specs.Steps.Dive.{IsOrigin, IsStartIn, IsFarNode, AreFar, IsFarFrom, AreLowerBounds, AreTrueMarks, IsKnownNow, AreKnownNow, IsWalkFromStart}
-use Rattle.leg_route_search.proofs.NewMarks.{mark_cases, unseen_no_mark}
+use Rattle.leg_route_search.proofs.NewMarks.{mark_cases}
 
 module _ {Node : Type 0} {Open : Node → Type 0} {Step : Node → Node → Type 0} where
   -- the last node of a walk is open
@@ -101,17 +100,6 @@ back_push left from node nodes some step is_open back = record {
 }
 
 module _ {Self : Type 0} (G : Ghosts Self) (graph : Self) where
-  -- no marks
-  pub true_unseen : (marks : List Mark) → length marks ≡ G.size_of graph → AreUnseen marks → AreTrueMarks G graph marks
-  true_unseen marks count unseen = record {
-    count = count;
-    bounds = record {
-      shut = λ a is. absurd (unseen_no_mark marks a Shut unseen is);
-      is_open = λ a steps is. absurd (unseen_no_mark marks a (Far steps) unseen is);
-      far = λ a steps is. absurd (unseen_no_mark marks a (Far steps) unseen is);
-    };
-  }
-
   -- a node that is shut
   pub true_shut : (marks : List Mark) (to : ℕ) → to < G.size_of graph → (G.OpenNode graph to → ⊥) → AreTrueMarks G graph marks
       → AreTrueMarks G graph (slice_set marks to Shut)
