@@ -158,7 +158,8 @@ module _ (parts : List (List Stretch)) where
   ]
 
 -- fewer free sites are no longer
-pub groups_fewer : (old new : List (List Stretch)) (groups : List ℕ) → length new ≡ length old → AreAllFewer old new → AreGroups old groups → AreGroups new groups
+pub groups_fewer : (old new : List (List Stretch)) (groups : List ℕ) → length new ≡ length old → AreAllFewer old new → AreGroups old groups
+    → AreGroups new groups
 groups_fewer old new groups count fewer are = record {
   count = let room = are.count in omega (arith, room, count);
   each = λ group most there n q from below at many first sites.

@@ -9,7 +9,7 @@ use crate::part_groups::{groups_of, measure_groups};
 use std::alloc::{AllocError, Allocator};
 
 /// How many stretches a part has before it is cut into two.
-const PART_LIMIT: usize = 512;
+const PART_LIMIT: usize = 128;
 
 /// Takes the sites from `from` up to `end` from the parts from the first place up to the last, outside which none has any.
 pub(crate) fn take_from_parts<A: Allocator>(
