@@ -114,17 +114,7 @@ groups_more grid listed far first count group so_far first_is count_is is least 
       ];
 }
 
--- all ends are kept: near
-pub kept_near : (grid : GridModel) (ends : List EndSlot) → AreKept grid ends (record { near = ends; listed = []; far = [] })
-kept_near grid ends = record {
-  near = λ end has. has;
-  listed = λ end has. absurd (Contains-nil end has);
-  grouped = λ group has. absurd (Contains-nil group has);
-  least = λ group has. absurd (Contains-nil group has);
-  all = λ end has. inl has;
-}
-
--- or in groups, in some order
+-- all ends are kept in groups, in some order
 pub kept_far : (grid : GridModel) (ends listed : List EndSlot) (far : List EndGroup) → ((end : EndSlot) → Contains listed end → Contains ends end)
     → ((end : EndSlot) → Contains ends end → Contains listed end) → AreGroupsTo grid listed (length listed) far
     → AreKept grid ends (record { near = []; listed = listed; far = far })

@@ -73,12 +73,12 @@ fn sort_ends<A: Allocator + Copy>(grid: &Grid<'_, '_, A>, ends: &mut Vec<EndSlot
     ends.sort_unstable_by_key(|end| place_key(u64::from(end.slot), rows, columns));
 }
 
-/// The bits of the row and of the column of this number in turn, the highest first: places whose keys are near mostly lie near to one
-/// another.
+/// The bits of the row and of the column of this number in turn: places whose keys are near mostly lie near to one another. The first
+/// bit is one of the row, so that places of a whole row lie in fewer groups: of ends that are equally near, the first row comes first.
 fn place_key(number: u64, rows: u64, columns: u64) -> u64 {
     let columns = columns.max(1);
     let row = number / columns % rows.max(1);
-    spread(row) | spread(number % columns) << 1
+    spread(row) << 1 | spread(number % columns)
 }
 
 /// The lower half of the bits, each with none between it and the next one.
@@ -297,14 +297,11 @@ fn least_near(near: &[EndSlot]) -> u32 {
     least
 }
 
-/// Up to how many steps a walk is looked for first: some more than are left at least, since a walk often has more of them than that.
+/// Up to how many steps a walk is looked for first: as many as are left at least to an end. A walk that is longer brings groups near,
+/// which each do so once.
 pub(crate) fn first_reach<A: Allocator>(ends: &NetEnds<A>) -> u32 {
     if ends.far.is_empty() {
         return 0;
     }
-    let least = least_near(&ends.near).min(least_far(&ends.far));
-    least.saturating_add(least / 2).saturating_add(MORE_STEPS)
+    least_near(&ends.near).min(least_far(&ends.far))
 }
-
-/// So many steps more than half as many again as are left at least a walk is looked for at first.
-const MORE_STEPS: u32 = 4;
