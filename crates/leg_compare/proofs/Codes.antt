@@ -14,7 +14,7 @@ use Rattle.leg_design_records.specs.Records.{DesignModel, PortModel, PinModel, N
 use Rattle.leg_rules.specs.Compare.Spelling.{SpelledWire}
 use Rattle.leg_rules.specs.Compare.Spelling.SpelledWire.{metal, via}
 
-numbers_told : (m n : ℕ) → (m ≡ n) ⊎ (m ≢ n)
+pub numbers_told : (m n : ℕ) → (m ≡ n) ⊎ (m ≢ n)
 numbers_told m n = elim (cases_order m n) [ inl same ↦ inl same | inr other ↦ inr (λ same. elim other [ inl less ↦ omega arith | inr more ↦ omega arith ]) ]
 
 codes_told : (x y : Gv) → (x ≡ y) ⊎ (x ≢ y)
@@ -87,9 +87,6 @@ module _ (d : DesignModel) where
   pub wires_told : (x y : List SpelledWire) → (x ≡ y) ⊎ (x ≢ y)
   wires_told x y = told_in (λ ws. record d { nets = map net_of ws }) (λ (e : DesignModel). map (λ (n : NetModel). wire_by n.name n.usage n.wires) e.nets)
       wires_back x y
-
-pub masters_told : (m n : ℕ) → (m ≡ n) ⊎ (m ≢ n)
-masters_told m n = numbers_told m n
 
 pub names_told : (x y : List ℕ) → (x ≡ y) ⊎ (x ≢ y)
 names_told x y = told (coded_list coded_ℕ) x y

@@ -28,7 +28,7 @@ use Rattle.leg_rules.specs.Compare.Differences.{DiffersAsVia, DiffersAsComponent
 use Rattle.leg_compare.specs.Same.{HasSame, AreSameByName, IsSameNet, IsSameDesign}
 use Rattle.leg_compare.proofs.Alike.{names_apart}
 use Rattle.leg_compare.proofs.SetsTold.{terminals_told}
-use Rattle.leg_compare.proofs.Codes.{told_in, same_if, words_told, vias_told, places_told, statuses_told, ports_told, wires_told, masters_told, names_told}
+use Rattle.leg_compare.proofs.Codes.{told_in, same_if, words_told, vias_told, places_told, statuses_told, ports_told, wires_told, numbers_told, names_told}
 
 -- Lists of named elements of which none is missing in the other, and none has changed, are the same by name.
 module _ {X : Type 0} (name_of : X → List ℕ) (Differs : Change → X → X → Type 0) (Same : X → X → Type 0) (Good : X → Type 0) (xs ys : List X)
@@ -117,7 +117,7 @@ module _ (first second : DesignModel) (library : first.library ≡ second.librar
   components_same : (x y : Component) → IsComponent first.library x → IsComponent first.library y → x.name ≡ y.name
       → ((change : Change) → ¬ DiffersAsComponent change x y) → x ≡ y
   components_same x y p q name never =
-      let master = same_if (masters_told x.master y.master) (never Macro) in
+      let master = same_if (numbers_told x.master y.master) (never Macro) in
       let place = same_if (places_told first x x.place y.place) (never OtherPlace) in
       let status = statuses_same x y p.placed q.placed place (never OtherStatus) in
       λ i. record { name = name i; master = master i; status = status i; place = place i }

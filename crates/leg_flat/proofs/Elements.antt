@@ -1,15 +1,7 @@
 -- What a slice's get answers, is the element of that place.
-use Rattle.std.proofs.Common.{◌≡◌, ℕ, ◌+◌, ◌<◌, ◌≤◌, ◌-◌, ◌++◌, List, length, get_or, slice_get, Option, None, Some, nat_lt, option_map, Bor, refl, sym, ◌∙◌, arith}
+use Rattle.std.proofs.Common.{◌≡◌, ℕ, ◌<◌, ◌≤◌, ◌-◌, ◌++◌, List, length, get_or, slice_get, Option, nat_lt, option_map, Bor, sym, ◌∙◌, arith}
 use Rattle.std.specs.Option.{is_some, IfSome}
-use Rattle.std.proofs.lemmas.Bool.Decides.{nat_tests}
-use Rattle.std.proofs.lemmas.Option.{slice_get_past, slice_get_read}
-use Rattle.leg_lemmas.proofs.Places.{in_first, get_behind}
-
--- the element of a list
-pub got_is : {X : Type 0} (xs : List X) (i : ℕ) (got : Option (Bor X)) → is_some got ≡ nat_lt i (length xs) → IfSome got (λ x. x.now ≡ get_or xs i x.now)
-    → option_map (λ x. x.now) got ≡ slice_get xs i
-got_is xs i None found is = sym (slice_get_past xs i (grind (arith, nat_tests)))
-got_is xs i (Some x) found is = sym (slice_get_read xs (length xs) i x.now refl (grind (arith, nat_tests)) is)
+use Rattle.leg_lemmas.proofs.Places.{in_first, get_behind, got_is}
 
 -- an element of the first of two lists
 pub got_first : {X : Type 0} (xs ys : List X) (i : ℕ) (got : Option (Bor X)) → i < length xs → is_some got ≡ nat_lt i (length xs)

@@ -11,8 +11,8 @@ use Rattle.leg_rules.specs.declared.piece.Piece.{Piece}
 use Rattle.leg_rules.specs.declared.piece.Piece.TheVariants.{Term}
 use Rattle.leg_rules.specs.Metal.Owner.{place_among}
 use Rattle.leg_flat.specs.Steps.Places.{place_in}
-use Rattle.leg_flat.specs.Steps.PlacesBelow.{or_else, new_among, ArePiecesAdded}
-use Rattle.leg_flat.proofs.PlacesAmong.{none_is, no_place, one_more}
+use Rattle.leg_flat.specs.Steps.PlacesBelow.{new_among, ArePiecesAdded}
+use Rattle.leg_flat.proofs.PlacesAmong.{none_is, no_place, one_more, or_none}
 
 -- a place that is asked for
 pub asked : (o p : Option (ℕ × ℕ)) (b : Bool) → is_some o ≡ not b → o ≡ p → is_none p ≡ b
@@ -45,10 +45,6 @@ module _ (net : ℕ) (ts : List Terminal) (i : ℕ) (t : Terminal) (before after
     (added : ArePiecesAdded net (take i ts) before pieces after more) where
   nowhere : place_among t (new_among before (take i ts)) ≡ None
   nowhere = no_place t (new_among before (take i ts)) (among_filter t (λ t. is_none (place_in before t)) (take i ts) (not_before ts i t once less there))
-
-  or_none : (o : Option (ℕ × ℕ)) → or_else o None ≡ o
-  or_none None = refl
-  or_none (Some place) = refl
 
   -- until now nothing else is known of the terminal than before
   known : place_in after t ≡ place_in before t

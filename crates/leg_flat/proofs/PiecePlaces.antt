@@ -1,10 +1,10 @@
 -- Where the terminals and the wires of a net stand among its pieces.
-use Rattle.std.proofs.Common.{◌≡◌, ℕ, suc, ◌+◌, ◌<◌, ◌⊎◌, inl, inr, Bool, true, false, List, [], ◌∷◌, ◌++◌, length, map, slice_get, Option, None, Some, refl, sym, ap, ◌∙◌, arith}
+use Rattle.std.proofs.Common.{◌≡◌, ℕ, suc, ◌+◌, ◌<◌, ◌⊎◌, inl, inr, Bool, true, false, List, [], ◌∷◌, ◌++◌, length, map, slice_get, Option, None, Some, refl, ap, ◌∙◌, arith}
 use Rattle.std.specs.List.{range_with_len}
 use Rattle.std.proofs.lemmas.List.{length-map}
-use Rattle.std.proofs.lemmas.List.FromFn.{length-range_with_len}
-use Rattle.std.proofs.lemmas.Option.{slice_get_within, slice_get-map}
+use Rattle.std.proofs.lemmas.Option.{slice_get-map}
 use Rattle.leg_lemmas.proofs.Places.{get_first, get_second, get_cases, counted, mapped_at, InSecond}
+use Rattle.leg_lemmas.proofs.Ranges.{number_is_place}
 use Rattle.leg_design_records.specs.declared.records.Terminal.{Terminal}
 use Rattle.leg_design_records.specs.declared.records.Wire as records
 use Rattle.leg_design_records.specs.Terminals.{is_same_terminal}
@@ -64,12 +64,6 @@ pub record IsWirePiece (design : DesignModel) (n k : ℕ) (piece : Piece) : Type
   pub is : piece ≡ Wire j
   pub place : k ≡ length (terminals_of design n) + j
 
-numbered : (n k j : ℕ) → slice_get (range_with_len 0 n) k ≡ Some j → j ≡ k
-numbered n k j at =
-    let less : k < n = omega (arith, slice_get_within (range_with_len 0 n) k j at, length-range_with_len 0 n) in
-    let e : ◌≡◌ {A = Option ℕ} (Some j) (Some k) = sym at ∙ counted n k less in
-    cc
-
 pub piece_cases : (design : DesignModel) (n k : ℕ) (piece : Piece) → slice_get (pieces_of design n) k ≡ Some piece
     → IsTerminalPiece design n k piece ⊎ IsWirePiece design n k piece
 unfolding pieces_of
@@ -84,7 +78,7 @@ piece_cases design n k piece at = by (get_cases (map Term (terminals_of design n
       inl (record { terminal = from.0; is = from.2; there = from.1 })
   by (inr second) =
       let from = mapped_at Wire (range_with_len 0 (length (wires_of design n))) second.j piece second.there in
-      let number : from.0 ≡ second.j = numbered (length (wires_of design n)) second.j from.0 from.1 in
+      let number : from.0 ≡ second.j = (number_is_place (length (wires_of design n)) second.j from.0 from.1).1 in
       inr (record {
         j = second.j;
         is = from.2 ∙ ap Wire number;

@@ -73,6 +73,10 @@ two_pieces None net from a b q = rw (place_append q a b) (by (place_among q a) (
   by None None = refl
   by None (Some k) = ap (λ m. Some (net, m)) (omega arith)
 
+pub or_none : (o : Option (ℕ × ℕ)) → or_else o None ≡ o
+or_none None = refl
+or_none (Some place) = refl
+
 -- one more piece, of a terminal that isn't known
 pub one_more : (known : Option (ℕ × ℕ)) (net from : ℕ) (ts : List Terminal) (t q : Terminal) → (t ≡ q → with_pieces known net from ts q ≡ None)
     → with_pieces known net from (ts ++ t ∷ []) q ≡ cond (is_same_terminal t q) (Some (net, from + length ts)) (with_pieces known net from ts q)
@@ -80,10 +84,6 @@ one_more known net from ts t q new =
     sym (two_pieces known net from ts (t ∷ []) q) ∙ by (is_same_terminal t q) refl (is_same_terminal q t) refl where
       before : Option (ℕ × ℕ)
       before = with_pieces known net from ts q
-
-      nothing : (o : Option (ℕ × ℕ)) → or_else o None ≡ o
-      nothing None = refl
-      nothing (Some x) = refl
 
       by : (same : Bool) → is_same_terminal t q ≡ same → (back : Bool) → is_same_terminal q t ≡ back
           → with_pieces before net (from + length ts) (t ∷ []) q ≡ cond (is_same_terminal t q) (Some (net, from + length ts)) before
@@ -94,4 +94,4 @@ one_more known net from ts t q new =
       by false other true back =
           let it : q ≡ t = same_is q t back in
           absurd (true≢false (sym (same_itself t) ∙ rw it at other))
-      by false other false back = rw (other, back) (nothing before)
+      by false other false back = rw (other, back) (or_none before)

@@ -17,7 +17,7 @@ use Rattle.leg_design_records.specs.WellFormedParts.{IsRow}
 use Rattle.leg_design_records.specs.declared.records.Row.{Row}
 use Rattle.leg_rules.specs.Placement.Box.{placed_box}
 use Rattle.leg_rules.specs.Placement.Sites.{IsOnSites}
-use Rattle.leg_place.proofs.OnSites.{IsWide, IsLevel, IsEdge, edge_is, level_from_on_sites, left_from_on_sites, right_from_on_sites}
+use Rattle.leg_place.proofs.OnSites.{IsWide, IsLevel, IsEdge, sites_long, level_from_on_sites, left_from_on_sites, right_from_on_sites}
 use Rattle.leg_rules.specs.Legalise.Preference.{IsTurned}
 use Rattle.leg_legal_sites.proofs.MacroBoxes.{upright_box, fitting_upright}
 use Rattle.leg_design_records.specs.Movable.{MayMove, IsMovable}
@@ -71,7 +71,7 @@ module _ (row : Row) (site size : ExtentModel) (area : HasArea site) (has_area :
   n = unsigned_abs site.width
 
   edge : (k : ℕ) → pos k *ℤ site.width ≡ pos (k * n)
-  edge k = edge_is row site box n (omega (arith, ints, area.wide)) (omega (arith, ints, area.wide)) k
+  edge k = sites_long site n (omega (arith, ints, area.wide)) k
 
   left_at : box.x1 ≡ row.at.x +ℤ pos (left.k * n)
   left_at = left.is ∙ ap (λ l. row.at.x +ℤ l) (edge left.k)

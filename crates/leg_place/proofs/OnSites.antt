@@ -48,11 +48,11 @@ module _ (d n : ℕ) (some : 0 < n) where
         | inr high ↦ absurd (omega (arith, mul-le-mul_right n high, site_begins, below))
       ]
 
-module _ (row : Row) (size : ExtentModel) (box : RectModel) (n : ℕ) (width : size.width ≡ pos n) (some : 0 < n) where
-  -- the left edge of a site
-  pub edge_is : (k : ℕ) → pos k *ℤ size.width ≡ pos (k * n)
-  edge_is k = rw width (pos-*ℤ-pos k n)
+-- so many sites, as a length: the left edge of the site behind them
+pub sites_long : (size : ExtentModel) (n : ℕ) → size.width ≡ pos n → (k : ℕ) → pos k *ℤ size.width ≡ pos (k * n)
+sites_long size n width k = rw width (pos-*ℤ-pos k n)
 
+module _ (row : Row) (size : ExtentModel) (box : RectModel) (n : ℕ) (width : size.width ≡ pos n) (some : 0 < n) where
   module _ (f l : ℕ) (left : box.x1 ≡ row.at.x +ℤ pos (f * n)) (right : box.x2 ≡ row.at.x +ℤ pos (l * n))
       (bottom : box.y1 ≡ row.at.y) (top : box.y2 ≡ row.at.y +ℤ size.height) (order : f < l) where
     -- a unit square of the rectangle is one of a site
@@ -68,8 +68,8 @@ module _ (row : Row) (size : ExtentModel) (box : RectModel) (n : ℕ) (width : s
           from = from_site d n some f from;
           below = omega (arith, below_site d n some l upto, order);
           inside = record {
-            left = rw (edge_is k) (omega (arith, ints, apart, site_begins d n some));
-            right = rw (edge_is (k + 1)) (omega (arith, ints, apart, site_ends d n some, product_more k n));
+            left = rw (sites_long size n width k) (omega (arith, ints, apart, site_begins d n some));
+            right = rw (sites_long size n width (k + 1)) (omega (arith, ints, apart, site_ends d n some, product_more k n));
             bottom = omega (arith, ints, c.bottom, bottom);
             top = omega (arith, ints, c.top, top);
           };
@@ -78,8 +78,8 @@ module _ (row : Row) (size : ExtentModel) (box : RectModel) (n : ℕ) (width : s
     -- and the other way round
     square_of_site : (square : PointModel) → SitesHave row size f (l - f) square → HasSquare box square
     square_of_site square s =
-        let inside_left = rw (edge_is s.k) at s.inside.left in
-        let inside_right = rw (edge_is (s.k + 1)) at s.inside.right in
+        let inside_left = rw (sites_long size n width s.k) at s.inside.left in
+        let inside_right = rw (sites_long size n width (s.k + 1)) at s.inside.right in
         let last : s.k + 1 ≤ l = omega (arith, s.below, order) in
         record {
           left = omega (arith, ints, inside_left, left, mul-le-mul_right n s.from);
@@ -126,8 +126,8 @@ module _ (row : Row) (size : ExtentModel) (box : RectModel) (n : ℕ) (width : s
           from = omega arith;
           below = omega (arith, s.from, s.below);
           inside = record {
-            left = rw (edge_is on.first) (omega (arith, ints));
-            right = rw (edge_is (on.first + 1)) (omega (arith, ints, product_more on.first n, some));
+            left = rw (sites_long size n width on.first) (omega (arith, ints));
+            right = rw (sites_long size n width (on.first + 1)) (omega (arith, ints, product_more on.first n, some));
             bottom = omega (arith, ints);
             top = omega (arith, ints, s.inside.bottom, s.inside.top);
           };
@@ -142,8 +142,8 @@ module _ (row : Row) (size : ExtentModel) (box : RectModel) (n : ℕ) (width : s
           from = omega (arith, s.from, s.below, is);
           below = omega (arith, is);
           inside = record {
-            left = rw (edge_is l) (omega (arith, ints, some));
-            right = rw (edge_is (l + 1)) (omega (arith, ints, product_more l n));
+            left = rw (sites_long size n width l) (omega (arith, ints, some));
+            right = rw (sites_long size n width (l + 1)) (omega (arith, ints, product_more l n));
             bottom = omega (arith, ints, s.inside.bottom, s.inside.top);
             top = omega (arith, ints);
           };
@@ -152,19 +152,19 @@ module _ (row : Row) (size : ExtentModel) (box : RectModel) (n : ℕ) (width : s
     left_is : box.x1 ≡ row.at.x +ℤ pos (on.first * n)
     left_is =
         let s = in_sites in
-        let inside = rw (edge_is s.k) at s.inside.left in
+        let inside = rw (sites_long size n width s.k) at s.inside.left in
         omega (arith, ints, inside, mul-le-mul_right n s.from, first_square.left)
 
     right_is : (l : ℕ) → on.first + on.many ≡ l + 1 → box.x2 ≡ row.at.x +ℤ pos ((l + 1) * n)
     right_is l is =
         let s = last_in_sites in
-        let inside = rw (edge_is (s.k + 1)) at s.inside.right in
+        let inside = rw (sites_long size n width (s.k + 1)) at s.inside.right in
         let last : s.k + 1 ≤ l + 1 = omega (arith, s.below, is) in
         omega (arith, ints, inside, mul-le-mul_right n last, product_more l n, (last_square l is).right)
 
     pub left_edge : IsEdge row size box.x1
     left_edge =
-        record { k = on.first; is = rw (edge_is on.first) left_is; within = omega (arith, ints, on.within) }
+        record { k = on.first; is = rw (sites_long size n width on.first) left_is; within = omega (arith, ints, on.within) }
 
     pub right_edge : IsEdge row size box.x2
     right_edge =
@@ -173,7 +173,8 @@ module _ (row : Row) (size : ExtentModel) (box : RectModel) (n : ℕ) (width : s
         let is : on.first + on.many ≡ l + 1 = omega (arith, s.from, s.below) in
         record {
           k = on.first + on.many;
-          is = let right : box.x2 ≡ row.at.x +ℤ pos ((on.first + on.many) * n) = rw is (right_is l is) in rw (edge_is (on.first + on.many)) right;
+          is = let right : box.x2 ≡ row.at.x +ℤ pos ((on.first + on.many) * n) = rw is (right_is l is) in rw
+              (sites_long size n width (on.first + on.many)) right;
           within = on.within;
         }
 
@@ -211,8 +212,8 @@ module _ (row : Row) (size : ExtentModel) (box : RectModel) (area : HasArea size
       let n = unsigned_abs size.width in
       let width : size.width ≡ pos n = omega (arith, ints, area.wide) in
       let some : 0 < n = omega (arith, ints, area.wide) in
-      let left_at = rw (edge_is row size box n width some left.k) at left.is in
-      let right_at = rw (edge_is row size box n width some right.k) at right.is in
+      let left_at = rw (sites_long size n width left.k) at left.is in
+      let right_at = rw (sites_long size n width right.k) at right.is in
       let order : left.k < right.k =
       elim (cases_lt left.k right.k) [
         | inl low ↦ low

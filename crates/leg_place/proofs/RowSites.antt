@@ -15,7 +15,7 @@ use Rattle.leg_rules.specs.Placement.Sites.{IsOnSites}
 use Rattle.leg_place.specs.Steps.SiteSpan.{span_of, row_box, covers}
 use Rattle.leg_place.specs.Steps.RowSpans.{IsWhole}
 use Rattle.leg_place.proofs.Mirrors.{same_rank}
-use Rattle.leg_place.proofs.OnSites.{IsWide, IsLevel, IsEdge, on_sites_from_edges, level_from_on_sites, left_from_on_sites, right_from_on_sites}
+use Rattle.leg_place.proofs.OnSites.{IsWide, IsLevel, IsEdge, on_sites_from_edges, level_from_on_sites, left_from_on_sites, right_from_on_sites, sites_long}
 use Rattle.leg_place.proofs.Shift.{product_sum, same_shift, steps_between}
 use Rattle.leg_place.proofs.SpanOrder.{Reaches, same_parts, reaches_from_covers, covers_from_reaches}
 
@@ -65,17 +65,13 @@ row_box_proper row size at some end extent =
     }
 
 module _ (row : Row) (size : ExtentModel) (box : RectModel) (n : ℕ) (width : size.width ≡ pos n) (some : 0 < n) where
-  -- so many sites, as a length
-  sites_long : (k : ℕ) → pos k *ℤ size.width ≡ pos (k * n)
-  sites_long k = rw width (pos-*ℤ-pos k n)
-
   -- the sides of a box on sites, by how many sites lie to the left of each
   module _ (level : IsLevel row size box) (left : IsEdge row size box.x1) (right : IsEdge row size box.x2) (proper : IsWide box) where
     left_at : box.x1 ≡ row.at.x +ℤ pos (left.k * n)
-    left_at = left.is ∙ ap (λ l. row.at.x +ℤ l) (sites_long left.k)
+    left_at = left.is ∙ ap (λ l. row.at.x +ℤ l) (sites_long size n width left.k)
 
     right_at : box.x2 ≡ row.at.x +ℤ pos (right.k * n)
-    right_at = right.is ∙ ap (λ l. row.at.x +ℤ l) (sites_long right.k)
+    right_at = right.is ∙ ap (λ l. row.at.x +ℤ l) (sites_long size n width right.k)
 
     edges_apart : left.k < right.k
     edges_apart =
@@ -92,7 +88,7 @@ module _ (row : Row) (size : ExtentModel) (box : RectModel) (n : ℕ) (width : s
         record {
           high = omega (arith, ints, level.bottom, level.top);
           many = many;
-          wide = rw (sites_long many) (omega (arith, ints, left_at, right_at, parts));
+          wide = rw (sites_long size n width many) (omega (arith, ints, left_at, right_at, parts));
         }
 
     covers_between : IsTrue (covers (span_of row.site size row.orient (row_box row size)) (span_of row.site size row.orient box))
@@ -100,7 +96,7 @@ module _ (row : Row) (size : ExtentModel) (box : RectModel) (n : ℕ) (width : s
         let m = unsigned_abs row.count in
         let count : row.count ≡ pos m = omega (arith, ints, right.within) in
         let few : right.k ≤ m = omega (arith, ints, right.within, count) in
-        let all : row.count *ℤ size.width ≡ pos (m * n) = ap (λ c. c *ℤ size.width) count ∙ sites_long m in
+        let all : row.count *ℤ size.width ≡ pos (m * n) = ap (λ c. c *ℤ size.width) count ∙ sites_long size n width m in
         covers_from_reaches (span_of row.site size row.orient (row_box row size)) (span_of row.site size row.orient box) (record {
           line = same_parts _ _ refl refl (sym level.bottom) (same_shift size.width n some width row.at.x box.x1 left.k left_at);
           left = omega (arith, ints, left_at);
@@ -124,14 +120,14 @@ module _ (row : Row) (size : ExtentModel) (box : RectModel) (n : ℕ) (width : s
 
     right_end : box.x2 ≡ row.at.x +ℤ pos ((whole.many + steps.0) * n)
     right_end =
-        let wide : box.x2 ≡ box.x1 +ℤ pos (whole.many * n) = whole.wide ∙ ap (λ l. box.x1 +ℤ l) (sites_long whole.many) in
+        let wide : box.x2 ≡ box.x1 +ℤ pos (whole.many * n) = whole.wide ∙ ap (λ l. box.x1 +ℤ l) (sites_long size n width whole.many) in
         omega (arith, ints, wide, steps.1, product_sum whole.many steps.0 n)
 
     within_count : pos (whole.many + steps.0) ≤ℤ row.count
     within_count =
         let m = unsigned_abs row.count in
         let count : row.count ≡ pos m = omega (arith, ints, some_sites) in
-        let all : row.count *ℤ size.width ≡ pos (m * n) = ap (λ c. c *ℤ size.width) count ∙ sites_long m in
+        let all : row.count *ℤ size.width ≡ pos (m * n) = ap (λ c. c *ℤ size.width) count ∙ sites_long size n width m in
         let reached : (whole.many + steps.0) * n ≤ m * n = omega (arith, ints, reach.right, right_end, all) in
         elim (cases_lt m (whole.many + steps.0)) [
           | inl beyond ↦
@@ -142,14 +138,14 @@ module _ (row : Row) (size : ExtentModel) (box : RectModel) (n : ℕ) (width : s
     left_edge : IsEdge row size box.x1
     left_edge = record {
       k = steps.0;
-      is = steps.1 ∙ ap (λ l. row.at.x +ℤ l) (sym (sites_long steps.0));
+      is = steps.1 ∙ ap (λ l. row.at.x +ℤ l) (sym (sites_long size n width steps.0));
       within = omega (arith, ints, within_count);
     }
 
     right_edge : IsEdge row size box.x2
     right_edge = record {
       k = whole.many + steps.0;
-      is = right_end ∙ ap (λ l. row.at.x +ℤ l) (sym (sites_long (whole.many + steps.0)));
+      is = right_end ∙ ap (λ l. row.at.x +ℤ l) (sym (sites_long size n width (whole.many + steps.0)));
       within = within_count;
     }
 

@@ -1,10 +1,9 @@
 -- The length of a net, and the wirelength of a design.
 use Rattle.std.proofs.Common.{◌≡◌, ◌⊎◌, inl, inr, ℕ, zero, suc, ◌+◌, pos, Bool, true, false, not, List, [], ◌∷◌, ◌++◌, length, filter, sum, Contains, Option, Some, slice_get, refl, sym, ap, ◌∙◌, subst, zero-add, arith}
 use Rattle.std.specs.List.{range_with_len}
-use Rattle.std.proofs.lemmas.List.{map-id}
 use Rattle.std.proofs.lemmas.List.Sums.{sum_by-append}
-use Rattle.std.proofs.lemmas.List.FromFn.{map-range_with_len_more}
 use Rattle.std.proofs.lemmas.List.Elements.{Contains-append_left, Contains-append_right, Contains-append_cases}
+use Rattle.leg_lemmas.proofs.Ranges.{range_more}
 use Rattle.leg_geom.specs.Plane.{PointModel, RectModel}
 use Rattle.leg_lib_records.specs.Scale.{OneForOne}
 use Rattle.leg_lib_records.proofs.OneEach.{push_pair}
@@ -93,12 +92,6 @@ module _ (design : DesignModel) where
       → IsLeastBoxIfAny (IsCentreAmong design (terminals_of design n)) b
   same_box n a b same least = subst (λ (box : Option RectModel). IsLeastBoxIfAny (IsCentreAmong design (terminals_of design n)) box) same least
 
--- one more of a range
-range_more : (a n : ℕ) → range_with_len a (n + 1) ≡ range_with_len a n ++ (a + n) ∷ []
-range_more a n =
-    sym (map-id (range_with_len a (n + 1))) ∙ map-range_with_len_more (λ (k : ℕ). k) a n (a + n) refl
-    ∙ ap (λ ks. ks ++ (a + n) ∷ []) (map-id (range_with_len a n))
-
 -- the lengths of the first nets, and their sum
 pub record AreLengths (design : DesignModel) (count total : ℕ) : Type 0 where
   pub lengths : List ℕ
@@ -114,7 +107,7 @@ one_more_length design count total length before one = record {
   lengths = before.lengths ++ length ∷ [];
   each =
       let more : range_with_len 0 (count + 1) ≡ range_with_len 0 count ++ count ∷ [] =
-      range_more 0 count ∙ ap (λ n. range_with_len 0 count ++ n ∷ []) (zero-add count) in
+      range_more 0 count count (zero-add count) in
       rw more (push_pair (IsNetLength design) (range_with_len 0 count) before.lengths count length before.each one);
   is = ap (λ t. t + length) before.is ∙ sym (sum_push before.lengths length);
 }

@@ -1,13 +1,13 @@
 -- The numbers of a net's shapes, before and after a net got wires.
-use Rattle.std.proofs.Common.{◌≡◌, ℕ, zero, suc, ◌+◌, ◌-◌, ◌<◌, ◌≤◌, List, [], ◌∷◌, ◌++◌, length, AllPairs, Contains, ◌⊎◌, inl, inr, None, Some, slice_get, sym, ap, subst, ◌∙◌, refl, arith}
+use Rattle.std.proofs.Common.{◌≡◌, ℕ, zero, suc, ◌+◌, ◌-◌, ◌<◌, ◌≤◌, List, [], ◌∷◌, ◌++◌, length, Contains, ◌⊎◌, inl, inr, None, Some, slice_get, sym, ap, subst, ◌∙◌, refl, arith}
 use Rattle.std.specs.List.{range_with_len}
 use Rattle.std.proofs.lemmas.List.{length-append}
-use Rattle.std.proofs.lemmas.List.FromFn.{length-range_with_len, get_or-range_with_len}
 use Rattle.std.proofs.lemmas.List.Elements.{Contains-append_left, Contains-append_right, Contains-append_cases}
 use Rattle.std.proofs.lemmas.Option.{slice_get_within, none-some}
 use Rattle.leg_lemmas.proofs.Places.{get_first, get_second, get_cases, contains_at, comes_from, InSecond}
 use Rattle.leg_lemmas.proofs.Contained.{All-from_contains}
 use Rattle.leg_lemmas.proofs.Rising.{AllPairs-append_by}
+use Rattle.leg_lemmas.proofs.Ranges.{in_range, range_within, range_rises}
 use Rattle.leg_design_records.specs.declared.records.Wire.{Wire}
 use Rattle.leg_design_records.specs.Records.{DesignModel}
 use Rattle.leg_rules.specs.declared.owner.Owner.TheVariants.{Net}
@@ -32,24 +32,6 @@ added_owner design net wires before metal shape it is = by (same_number net it.n
       is.owner ∙ sym (ap (λ (m : Metal). m.belongs.owner) from.2) ∙ ap Net (sym same)
   by (inr other) = absurd (none-some it.wire (sym (ap (λ ws. slice_get ws it.j) (added_of_other it.net net wires other)) ∙ it.there))
 
--- numbers from one on
-module _ (from count : ℕ) where
-  range_each : (k : ℕ) → Contains (range_with_len from count) k → (from ≤ k) × (k < from + count)
-  range_each k has =
-      let within : has.0 < count = omega (arith, has.1, length-range_with_len from count) in
-      let is : from + has.0 ≡ k = sym (get_or-range_with_len from count has.0 k within) ∙ has.2 in
-      (omega (arith, is), omega (arith, is, within))
-
-  range_all : (j : ℕ) → j < count → Contains (range_with_len from count) (from + j)
-  range_all j less = (j, omega (arith, less, length-range_with_len from count), get_or-range_with_len from count j (from + j) less)
-
-  range_rises : AllPairs (λ j k. j < k) (range_with_len from count)
-  range_rises i j d below within =
-      let less : j < count = omega (arith, within, length-range_with_len from count) in
-      let first = get_or-range_with_len from count i d (omega (arith, below, less)) in
-      let second = get_or-range_with_len from count j d less in
-      omega (arith, first, second, below)
-
 module _ (before more : List Shape) (net : ℕ) (owned : (shape : Shape) → Contains more shape → shape.owner ≡ Net net) where
   abbrev after : List Shape
   after = before ++ more
@@ -65,7 +47,7 @@ module _ (before more : List Shape) (net : ℕ) (owned : (shape : Shape) → Con
         (range_with_len (length before) (length more))
         (All-from_contains (λ k. k < length before) numbers (λ k has. slice_get_within before k (are.each k has).shape (are.each k has).at))
         (All-from_contains (λ k. length before ≤ k) (range_with_len (length before) (length more))
-        (λ k has. (range_each (length before) (length more) k has).0))
+        (λ k has. (range_within (length before) (length more) k has).0))
         are.increasing (range_rises (length before) (length more));
     each = each;
     all = all;
@@ -75,7 +57,7 @@ module _ (before more : List Shape) (net : ℕ) (owned : (shape : Shape) → Con
       by : Contains numbers k ⊎ Contains (range_with_len (length before) (length more)) k → IsOfNet after net k
       by (inl old) = kept net k (are.each k old)
       by (inr new) =
-          let range = range_each (length before) (length more) k new in
+          let range = range_within (length before) (length more) k new in
           let j = k - length before in
           let place : k ≡ length before + j = omega (arith, range.0) in
           let less : j < length more = omega (arith, range.0, range.1) in
@@ -99,7 +81,8 @@ module _ (before more : List Shape) (net : ℕ) (owned : (shape : Shape) → Con
       by (inr new) =
           Contains-append_right numbers (range_with_len (length before) (length more)) k
           (subst (Contains (range_with_len (length before) (length more))) (sym new.place)
-          (range_all (length before) (length more) new.j (slice_get_within more new.j is.shape new.there)))
+          (in_range (length before) (length more) (length before + new.j) (omega arith)
+          (let within = slice_get_within more new.j is.shape new.there in omega (arith, within))))
 
   -- those of another net are the same
   pub other_numbers : (other : ℕ) (numbers : List ℕ) → ¬ (other ≡ net) → AreNumbersOf before other numbers → AreNumbersOf after other numbers

@@ -2,9 +2,9 @@
 use Rattle.std.proofs.Common.{◌≡◌, ℕ, ◌+◌, ◌<◌, List, [], ◌∷◌, length, map, Some, slice_get, ◌⊎◌, inl, inr, refl, sym, ap, ◌∙◌, arith}
 use Rattle.std.specs.List.{range_with_len}
 use Rattle.std.proofs.lemmas.List.{length-map}
-use Rattle.std.proofs.lemmas.List.FromFn.{length-range_with_len}
-use Rattle.std.proofs.lemmas.Option.{slice_get_within, slice_get-map, same_Some}
+use Rattle.std.proofs.lemmas.Option.{slice_get-map, same_Some}
 use Rattle.leg_lemmas.proofs.Places.{get_first, get_second, get_cases, counted, mapped_at, InSecond}
+use Rattle.leg_lemmas.proofs.Ranges.{number_is_place}
 use Rattle.leg_design_records.specs.declared.records.Terminal.{Terminal}
 use Rattle.leg_rules.specs.declared.piece.Piece.{Piece}
 use Rattle.leg_rules.specs.declared.piece.Piece.TheVariants.{Term, Wire}
@@ -40,11 +40,6 @@ pub record IsWireAt (terminals : List Terminal) (wires k : ℕ) (piece : Piece) 
   pub place : k ≡ length terminals + j
   pub less : j < wires
 
-pub numbered_is : (n k j : ℕ) → slice_get (range_with_len 0 n) k ≡ Some j → (k < n) × (j ≡ k)
-numbered_is n k j at =
-    let less : k < n = omega (arith, slice_get_within (range_with_len 0 n) k j at, length-range_with_len 0 n) in
-    (less, same_Some j k (sym at ∙ counted n k less))
-
 pub piece_cases : (terminals : List Terminal) (wires k : ℕ) (piece : Piece) → slice_get (pieces_with terminals wires) k ≡ Some piece
     → IsTerminalAt terminals k piece ⊎ IsWireAt terminals wires k piece
 piece_cases terminals wires k piece at = by (get_cases (map Term terminals) (numbered wires) k piece at) where
@@ -55,7 +50,7 @@ piece_cases terminals wires k piece at = by (get_cases (map Term terminals) (num
       inl (record { terminal = from.0; is = from.2; there = from.1 })
   by (inr second) =
       let from = mapped_at Wire (range_with_len 0 wires) second.j piece second.there in
-      let number = numbered_is wires second.j from.0 from.1 in
+      let number = number_is_place wires second.j from.0 from.1 in
       inr (record {
         j = second.j;
         is = from.2 ∙ ap Wire number.1;
