@@ -135,13 +135,18 @@ pub record AreEnds (grid : GridModel) (along_x along_y : Bool) (j i : ℕ) (low 
   pub x_end : IsHere grid.xs along_x i high.x
   pub y_end : IsHere grid.ys along_y j high.y
 
+-- a number from one to another
+record IsFromTo (low high z : ℤ) : Type 0 where
+  from : low ≤ℤ z
+  to : z ≤ℤ high
+
 past_beyond : (values : List ℤ) (along : Bool) (i : ℕ) (z1 z2 reach : ℤ) (distance : ℕ) (low high p q : ℤ)
     → IsPast values along i (z1 -ℤ (reach +ℤ pos distance)) (z2 +ℤ (reach +ℤ pos distance)) → slice_get values i ≡ Some low → IsHere values along i high
-    → (low -ℤ reach) ≤ℤ p → p ≤ℤ (high +ℤ reach) → z1 ≤ℤ q → q ≤ℤ z2 → IsBeyond distance p q
-past_beyond values along i z1 z2 reach distance low high p q (inl before) there end from to above below =
-    inl (let less = before end.m high end.upto end.there in omega (arith, ints, less, from, to, above, below))
-past_beyond values along i z1 z2 reach distance low high p q (inr behind) there end from to above below =
-    inr (let more = behind low there in omega (arith, ints, more, from, to, above, below))
+    → IsFromTo (low -ℤ reach) (high +ℤ reach) p → IsFromTo z1 z2 q → IsBeyond distance p q
+past_beyond values along i z1 z2 reach distance low high p q (inl before) there end around inside =
+    inl (let less = before end.m high end.upto end.there in omega (arith, ints, less, around.from, around.to, inside.from, inside.to))
+past_beyond values along i z1 z2 reach distance low high p q (inr behind) there end around inside =
+    inr (let more = behind low there in omega (arith, ints, more, around.from, around.to, inside.from, inside.to))
 
 module _ (grid : GridModel) (along_x along_y : Bool) (j i : ℕ) (shape : Shape) (low high : PointModel)
     (are_ends : AreEnds grid along_x along_y j i low high) where
@@ -153,12 +158,12 @@ module _ (grid : GridModel) (along_x along_y : Bool) (j i : ℕ) (shape : Shape)
   points_beyond None past Holds around p q holds inside = absurd around
   points_beyond (Some reach) (inl column) Holds around p q holds inside =
       let here = around p holds in
-      inl (past_beyond grid.xs along_x i shape.rect.x1 shape.rect.x2 reach distance low.x high.x p.x q.x column are_ends.x are_ends.x_end here.left here.right
-      inside.left inside.right)
+      inl (past_beyond grid.xs along_x i shape.rect.x1 shape.rect.x2 reach distance low.x high.x p.x q.x column are_ends.x are_ends.x_end
+      (record { from = here.left; to = here.right }) (record { from = inside.left; to = inside.right }))
   points_beyond (Some reach) (inr row) Holds around p q holds inside =
       let here = around p holds in
-      inr (past_beyond grid.ys along_y j shape.rect.y1 shape.rect.y2 reach distance low.y high.y p.y q.y row are_ends.y are_ends.y_end here.bottom here.top
-      inside.bottom inside.top)
+      inr (past_beyond grid.ys along_y j shape.rect.y1 shape.rect.y2 reach distance low.y high.y p.y q.y row are_ends.y are_ends.y_end
+      (record { from = here.bottom; to = here.top }) (record { from = inside.bottom; to = inside.top }))
 
   -- a wire whose metal lies around a slot's points is open where the shape lies far from there
   pub far_wire : (reach : Option ℤ) → IsSlotPast grid along_x along_y j i shape.rect reach distance → (wire : Wire)

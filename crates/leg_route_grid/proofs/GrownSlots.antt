@@ -204,15 +204,20 @@ pub record IsFarFrom (grid : GridModel) (shape : Shape) (n : ℕ) (flat : FlatMo
   pub along : IsOpenAlong grid flat net n → IsOpenAlong grid (alone shape) net n
   pub above : IsOpenStepAt grid flat net Above n → IsOpenStepAt grid (alone shape) net Above n
 
+-- a slot, and the steps from it, admit those nets that both of two others admit
+pub record AdmitBoth (a b c : SlotAccess) : Type 0 where
+  pub node : IsBoth a.node b.node c.node
+  pub along : IsBoth a.along b.along c.along
+  pub above : IsBoth a.above b.above c.above
+
 module _ (grid : GridModel) (is_grid : IsDesignGrid grid) (n : ℕ) (shape : Shape) (flat grown : FlatModel) (has : HasShape shape flat grown) where
   -- what is told of the slot in the flat and beside the shape is both told of it in the grown flat
-  pub tells_grown : (a b c : SlotAccess) → IsSlotAccess grid flat n a → IsSlotAccess grid (alone shape) n b → IsBoth a.node b.node c.node
-      → IsBoth a.along b.along c.along → IsBoth a.above b.above c.above
+  pub tells_grown : (a b c : SlotAccess) → IsSlotAccess grid flat n a → IsSlotAccess grid (alone shape) n b → AdmitBoth a b c
       → IsSlotAccess grid grown n c
-  tells_grown a b c here beside node along above = record {
-    node = told_both _ _ _ a.node b.node c.node node here.node beside.node (λ net. one_grown grid is_grid n shape flat grown has net);
-    along = told_both _ _ _ a.along b.along c.along along here.along beside.along (λ net. along_grown grid is_grid n shape flat grown has net);
-    above = told_both _ _ _ a.above b.above c.above above here.above beside.above (λ net. step_at_grown grid is_grid n shape flat grown has net Above);
+  tells_grown a b c here beside both = record {
+    node = told_both _ _ _ a.node b.node c.node both.node here.node beside.node (λ net. one_grown grid is_grid n shape flat grown has net);
+    along = told_both _ _ _ a.along b.along c.along both.along here.along beside.along (λ net. along_grown grid is_grid n shape flat grown has net);
+    above = told_both _ _ _ a.above b.above c.above both.above here.above beside.above (λ net. step_at_grown grid is_grid n shape flat grown has net Above);
   }
 
   -- what is told of a slot far from the shape stays told

@@ -7,14 +7,14 @@ use Rattle.leg_wire.specs.Access.{alone}
 use Rattle.leg_route_grid.specs.declared.slot_access.SlotAccess.{SlotAccess}
 use Rattle.leg_route_grid.specs.Steps.Grid.{GridModel, IsDesignGrid}
 use Rattle.leg_route_grid.specs.Steps.AccessTable.{IsSlotAccess}
-use Rattle.leg_route_grid.specs.Steps.AccessUpdates.{IsBoth, AreAccessAfter}
-use Rattle.leg_route_grid.proofs.GrownSlots.{tells_grown}
+use Rattle.leg_route_grid.specs.Steps.AccessUpdates.{AreAccessAfter}
+use Rattle.leg_route_grid.proofs.GrownSlots.{AdmitBoth, tells_grown}
 
 pub told_here : (grid : GridModel) → IsDesignGrid grid → (shape : Shape) (number : ℕ) (before : List SlotAccess) (old beside both : SlotAccess)
     → number < length before → slice_get before number ≡ Some old → IsSlotAccess grid (alone shape) number beside
-    → IsBoth old.node beside.node both.node → IsBoth old.along beside.along both.along → IsBoth old.above beside.above both.above
+    → AdmitBoth old beside both
     → AreAccessAfter grid shape (λ n. n ≡ number) before (slice_set before number both)
-told_here grid is_grid shape number before old beside both within there tells node along above = record {
+told_here grid is_grid shape number before old beside both within there tells admits = record {
   count = length-set before number both;
   told = λ n is. record {
     told = λ flat grown slot has old_at told new at_new.
@@ -24,7 +24,7 @@ told_here grid is_grid shape number before old beside both within there tells no
         let second : both ≡ new = same_Some both new (sym (slice_set_here before number both within) ∙ new_at) in
         let P : SlotAccess → Type 0 = λ s. IsSlotAccess grid flat number s in
         let was : IsSlotAccess grid flat number old = subst P (sym first) (rw is at told) in
-        let grows = tells_grown grid is_grid number shape flat grown has old beside both was tells node along above in
+        let grows = tells_grown grid is_grid number shape flat grown has old beside both was tells admits in
         let Q : SlotAccess → Type 0 = λ s. IsSlotAccess grid grown number s in
         let R : ℕ → Type 0 = λ n. IsSlotAccess grid grown n new in
         subst R (sym is) (subst Q second grows);

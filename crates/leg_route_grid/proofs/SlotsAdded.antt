@@ -192,16 +192,16 @@ module _ (grid : GridModel) (shape : Shape) where
 
 -- in all slots, of layers near the shape and of others
 pub all_told : (grid : GridModel) → IsDesignGrid grid → IsSound grid.design.library → (shape : Shape) (first end : ℕ)
-    → AreNearLayers grid shape.layer first end → (before after : List SlotAccess) → length before ≡ slot_total grid
+    → AreNearLayers grid shape.layer first end → (before after : List SlotAccess)
     → AreAccessAfter grid shape (IsSlotAmong (IsSlotOnLayer grid) first end) before after → (flat grown : FlatModel) → HasShape shape flat grown
     → IsAccessTable grid flat before → IsAccessTable grid grown after
-all_told grid is_grid sound shape first end near before after count got flat grown has tells = record {
-  count = got.count ∙ count;
+all_told grid is_grid sound shape first end near before after got flat grown has tells = record {
+  count = got.count ∙ tells.count;
   each = λ n new there.
       let within = slice_get_within after n new there in
-      let below : n < slot_total grid = omega (arith, within, got.count, count) in
+      let below : n < slot_total grid = omega (arith, within, got.count, tells.count) in
       let divided = by_division (length grid.layers) (length grid.ys) (length grid.xs) n below in
-      let old = some_at before n (omega (arith, below, count)) in
+      let old = some_at before n (omega (arith, below, tells.count)) in
       let slot : IsSlot grid n (n / length grid.xs / length grid.ys) (n / length grid.xs % length grid.ys) (n % length grid.xs) =
       record { layer = divided.layer; row = divided.row; column = divided.column; is = divided.is } in
       (told n _ _ _ slot (placed (n / length grid.xs / length grid.ys))).told flat grown old.value has old.there (tells.each n old.value old.there) new there;

@@ -112,16 +112,24 @@ module _ (design : DesignModel) where
               subst Whole (sym front.is) (along side front.run on straight end line further);
         }
 
-    pub along_run : (nodes : List Node) (n : ℕ) (a b : Node) → IsOnLayer side → 0 < n → n < length nodes → IsGridWalk design nodes → IsRunTowards side nodes n
+    -- a run of so many steps from the first node to another one
+    pub record IsRunFromTo (nodes : List Node) (n : ℕ) (a b : Node) : Type 0 where
+      pub some : 0 < n
+      pub within : n < length nodes
+      pub run : IsRunTowards side nodes n
+      pub begins : slice_get nodes 0 ≡ Some a
+      pub ends : slice_get nodes n ≡ Some b
+
+    pub along_run : (nodes : List Node) (n : ℕ) (a b : Node) → IsOnLayer side → IsGridWalk design nodes
         → ((x y : Node) → slice_get nodes 0 ≡ Some x → slice_get nodes 1 ≡ Some y → IsNeighbour design side x y)
-        → slice_get nodes 0 ≡ Some a → slice_get nodes n ≡ Some b → Along a b nodes n
-    along_run [] n a b on some within walk run first at_a at_b = absurd (omega (arith, within))
-    along_run (x ∷ nodes) zero a b on some within walk run first at_a at_b = absurd (omega (arith, some))
-    along_run (x ∷ nodes) (suc n) a b on some within walk run first at_a at_b =
-        let same : x ≡ a = same_Some x a at_a in
+        → IsRunFromTo nodes n a b → Along a b nodes n
+    along_run [] n a b on walk first is = absurd (let within = is.within in omega (arith, within))
+    along_run (x ∷ nodes) zero a b on walk first is = absurd (let some = is.some in omega (arith, some))
+    along_run (x ∷ nodes) (suc n) a b on walk first is =
+        let same : x ≡ a = same_Some x a is.begins in
         let found =
-        begin x nodes (suc n) b on run at_b (front n x nodes (let e : suc n < suc (length nodes) = within in omega (arith, e))
-        (goes_on (x ∷ nodes) (suc n) walk run first)) in
+        begin x nodes (suc n) b on is.run is.ends (front n x nodes (let e : suc n < suc (length nodes) = is.within in omega (arith, e))
+        (goes_on (x ∷ nodes) (suc n) walk is.run first)) in
         let From : Node → Type 0 = λ z. Along z b (x ∷ nodes) (suc n) in
         subst From same found
 

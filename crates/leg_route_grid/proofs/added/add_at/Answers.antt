@@ -15,4 +15,5 @@ returns g c =
     told_here c.args.grid.now c.requires.proper c.args.shape.now c.args.number c.args.slots.now _ c.slot_beside.result c.and.result
     (let count = c.requires.count in let within = c.requires.within in omega (arith, count, within))
     (slice_get-get_or c.args.slots.now c.args.number _ (let count = c.requires.count in let within = c.requires.within in omega (arith, count, within)))
-    c.slot_beside.ensures c.and.ensures.node c.and.ensures.along c.and.ensures.above
+    c.slot_beside.ensures
+    (record { node = c.and.ensures.node; along = c.and.ensures.along; above = c.and.ensures.above })

@@ -19,6 +19,6 @@ loop-k-preserved g c = (
 pub returns-clause-told : goal.returns-clause-told
 returns-clause-told g c =
     all_told c.args.grid.now c.grid_is_sound.ensures.proper c.grid_is_sound.ensures.library c.args.shape.now _ _ c.layers_near-first.ensures c.args.slots.now
-    c.loop-k.slots c.requires.count
+    c.loop-k.slots
     (all_among c.args.grid.now c.args.shape.now (IsSlotOnLayer c.args.grid.now) c.layers_near-first.result.0 c.args.slots.now c.loop-k.k
     c.layers_near-first.result.1 c.loop-k.slots (omega arith) c.loop-k.invariant.1 c.loop-k.invariant.0)

@@ -32,8 +32,13 @@ returns-then-stays_on_layer-clause-begins g c =
     let on : IsOnLayer c.side_of-side.result = c.if-stays_on_layer.ensures.0 refl in
     let first = first_any c.args.design.now nodes c.requires.walk _ _ from next c.side_of-side.result c.side_of-side.ensures in
     let run =
-    along_run c.args.design.now c.side_of-side.result nodes c.run_length-steps.result _ _ on c.run_length-steps.ensures.some c.run_length-steps.ensures.within
-    c.requires.walk c.run_length-steps.ensures.run first from last in
+    along_run c.args.design.now c.side_of-side.result nodes c.run_length-steps.result _ _ on c.requires.walk first (record {
+      some = c.run_length-steps.ensures.some;
+      within = c.run_length-steps.ensures.within;
+      run = c.run_length-steps.ensures.run;
+      begins = from;
+      ends = last;
+    }) in
     run.begins c.segment.result c.segment.ensures
 
 pub returns-then-stays_on_layer-clause-spelled : goal.returns-then-stays_on_layer-clause-spelled
@@ -46,8 +51,13 @@ returns-then-stays_on_layer-clause-spelled g c =
     let on : IsOnLayer c.side_of-side.result = c.if-stays_on_layer.ensures.0 refl in
     let first = first_any c.args.design.now nodes c.requires.walk _ _ from next c.side_of-side.result c.side_of-side.ensures in
     let run =
-    along_run c.args.design.now c.side_of-side.result nodes c.run_length-steps.result _ _ on c.run_length-steps.ensures.some c.run_length-steps.ensures.within
-    c.requires.walk c.run_length-steps.ensures.run first from last in
+    along_run c.args.design.now c.side_of-side.result nodes c.run_length-steps.result _ _ on c.requires.walk first (record {
+      some = c.run_length-steps.ensures.some;
+      within = c.run_length-steps.ensures.within;
+      run = c.run_length-steps.ensures.run;
+      begins = from;
+      ends = last;
+    }) in
     line_is_wire c.args.design.now c.index-nodes-0.result c.segment.result
     (node_position c.args.design.now _ c.is_proper.ensures (c.requires.walk.each 0 _ from)) c.side_of-side.result c.index-nodes-steps.result
     (node_position c.args.design.now _ c.is_proper.ensures (c.requires.walk.each c.run_length-steps.result _ last)) on run.due_is c.segment.ensures
