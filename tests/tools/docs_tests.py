@@ -234,6 +234,39 @@ class WidthTests(DoctoredTests):
             self.assertEqual(said(docs.check_widths, self.copy), set())
 
 
+class PremiseTests(DoctoredTests):
+    """Statements of specs/ and proofs/ with many premises."""
+    crates = ('leg_geom',)
+
+    def found(self, statement):
+        """Returns what the check says of a new file with this statement, in which `Even` says something of a number and `Pair` is plain data."""
+        path = 'crates/leg_geom/specs/New.antt'
+        self.copy.write(path, 'record Even (n : ℕ) : Type 0 where\n  half : ℕ\n\nrecord Pair : Type 0 where\n  first : ℕ\n\n' + statement + '\n')
+        return said(docs.check_premises, self.copy)
+
+    def test_premises_are_counted(self):
+        self.assertEqual(said(docs.check_premises, self.copy), set())
+        six = 'many : (a b : ℕ) → a ≡ b → a < b\n    → Even a → ((n : ℕ) → Even n) → (a ≡ b) × (b < a) → (even : Even b) → '
+        said_of_seven = {'crates/leg_geom/specs/New.antt:7: many has 7 premises, and 6 are the most'}
+        for more in ('¬ Even a', '(same : a ≡ b)', '(a ≡ b) ⊎ Even a', 'All Even (a ∷ [])'):
+            with self.subTest(more=more):
+                self.assertEqual(self.found(f'{six}{more} → a ≤ b'), said_of_seven)
+        for more in ('(c : ℕ)', 'Pair', '(Pair → ℕ → Type 0)', '(ℕ → Pair)', 'List (List Pair)', 'ℕ × Pair', 'HashMap ℕ Pair'):
+            with self.subTest(more=more):
+                self.assertEqual(self.found(f'{six}{more} → a ≤ b'), set())
+
+    def test_what_a_module_gives_is_not_counted_and_what_its_parameters_say_is_known(self):
+        module = 'module _ (P : ℕ → Type 0) (p : P 0) (q : P 1) (r : P 2)\n    (s : P 3) where\n  pub many : (a : ℕ) → '
+        self.assertEqual(self.found(f'{module}{"P a → " * 6}P a'), set())
+        self.assertEqual(self.found(f'{module}{"P a → " * 7}P a'), {'crates/leg_geom/specs/New.antt:9: many has 7 premises, and 6 are the most'})
+
+    def test_records_and_parts_of_proofs_are_free(self):
+        record = 'record Many (a : ℕ) (b : Even a) : Type 0 where\n' + ''.join(f'  field{n} : Even a\n' for n in range(8))
+        proof = 'one : ℕ\none = two where\n  two : ' + '0 < 1 → ' * 7 + 'ℕ\n'
+        for text in (record, proof):
+            self.assertEqual(self.found(text), set())
+
+
 class GateTests(DoctoredTests):
     """tests/edits/gate."""
     crates = ()
