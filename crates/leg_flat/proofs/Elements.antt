@@ -1,5 +1,5 @@
 -- What a slice's get answers, is the element of that place.
-use Rattle.std.proofs.Common.{◌≡◌, ℕ, ◌+◌, ◌<◌, ◌≤◌, ◌-◌, ◌++◌, List, length, get_or, slice_get, Option, nat_lt, option_map, Bor, sym, ◌∙◌, arith}
+use Rattle.std.proofs.Common.{◌≡◌, ℕ, ◌<◌, ◌≤◌, ◌-◌, ◌++◌, List, length, get_or, slice_get, Option, nat_lt, option_map, Bor, sym, ◌∙◌, arith}
 use Rattle.std.specs.Option.{is_some, IfSome}
 use Rattle.leg_lemmas.proofs.Places.{in_first, get_behind, got_is}
 
