@@ -17,7 +17,7 @@ pub use Rattle.leg_grammar.specs.Def.Port
 pub use Rattle.leg_grammar.specs.Def.PinClauses
 pub use Rattle.leg_grammar.specs.Def.Pin
 pub use Rattle.leg_grammar.specs.Def.Blockage
-pub use Rattle.leg_grammar.specs.Def.Namespace
+pub use Rattle.leg_grammar.specs.Def.NetScope
 pub use Rattle.leg_grammar.specs.Def.Terminal
 pub use Rattle.leg_grammar.specs.Def.Path
 pub use Rattle.leg_grammar.specs.Def.PathItem
