@@ -39,28 +39,8 @@ module _ (parts : List (List Stretch)) (in_row : AreInRow parts) (i site : ℕ) 
         omega (arith, apart, one)
   ]
 
-pub none_beyond : (parts : List (List Stretch)) (end site : ℕ) → length parts ≤ end → LieBeyond parts end site
-none_beyond parts end site all n k p from there = absurd (let within = slice_get_within parts n p there in omega (arith, within, from, all))
-
--- no run that begins in parts before the least site, or beyond the most, fits
-module _ (parts : List (List Stretch)) (many i : ℕ) (some : 1 ≤ many) where
-  pub none_before : (least : ℕ) → LieBefore parts i least → NoneFitsBefore parts many least i
-  none_before least before n first p below there fits =
-      let lies = before n first p below there (fits.sites first (omega arith) (omega (arith, some))) in
-      let above = fits.above in
-      omega (arith, lies, above)
-
-  pub none_from : (most : ℕ) → LieBeyond parts i most → NoneFitsFrom parts many most i
-  none_from most beyond n first p from there fits =
-      let lies = beyond n first p from there (fits.sites first (omega arith) (omega (arith, some))) in
-      let upto = fits.upto in
-      omega (arith, lies, upto)
-
 -- how many sites are free side by side in some parts
 module _ (parts : List (List Stretch)) where
-  pub no_longer_none : (from end most : ℕ) → end ≤ from → AreNoLonger parts from end most
-  no_longer_none from end most none n p above below there = absurd (omega (arith, none, above, below))
-
   pub no_longer_more : (from i most here : ℕ) (p : List Stretch) → slice_get parts i ≡ Some p → AreNoMoreThan here p → AreNoLonger parts from i most
       → (joined : ℕ) → here ≤ joined → most ≤ joined → AreNoLonger parts from (i + 1) joined
   no_longer_more from i most here p at longest before joined more too n q above below there many first sites = elim (cases_lt n i) [
@@ -97,12 +77,6 @@ module _ (parts : List (List Stretch)) where
 
 -- groups of parts
 module _ (parts : List (List Stretch)) where
-  pub groups_none : AreGroups parts []
-  groups_none = record {
-    count = omega arith;
-    each = λ group most there. absurd (let within = slice_get_within [] group most there in omega (arith, within));
-  }
-
   pub group_more : (groups : List ℕ) (most : ℕ) → AreGroups parts groups → GROUP * length groups + GROUP ≤ length parts
       → AreNoLonger parts (GROUP * length groups) (GROUP * length groups + GROUP) most → AreGroups parts (groups ++ most ∷ [])
   group_more groups most are room longest = record {
@@ -122,16 +96,6 @@ module _ (parts : List (List Stretch)) where
       | inr differ ↦ are.each other value (slice_get-set_other groups group other most value differ there)
     ];
   }
-
-  -- a group's place lies within the parts
-  pub group_within : (groups : List ℕ) (group : ℕ) → AreGroups parts groups → group < length groups → GROUP * group + GROUP ≤ length parts
-  group_within groups group are below = let count = are.count in omega (arith, count, below)
-
-  pub short_within : (groups : List ℕ) (place many : ℕ) → AreGroups parts groups → IsShort groups place many → place + GROUP ≤ length parts
-  short_within groups place many are short =
-      let room = group_within groups short.group are (slice_get_within groups short.group short.most short.there) in
-      let begins = short.begins in
-      omega (arith, room, begins)
 
   -- a run of so many sites doesn't fit in a group that is short
   none_in_short : (groups : List ℕ) (place many first n : ℕ) (p : List Stretch) → AreGroups parts groups → IsShort groups place many → place ≤ n
