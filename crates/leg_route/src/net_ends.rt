@@ -73,12 +73,15 @@ fn sort_ends<A: Allocator + Copy>(grid: &Grid<'_, '_, A>, ends: &mut Vec<EndSlot
     ends.sort_unstable_by_key(|end| place_key(u64::from(end.slot), rows, columns));
 }
 
-/// The bits of the row and of the column of this number in turn: places whose keys are near mostly lie near to one another. The first
-/// bit is one of the row, so that places of a whole row lie in fewer groups: of ends that are equally near, the first row comes first.
+/// So many columns count as one row in the order of ends. Of ends that are equally near, the one in the first row comes first, so the
+/// joined part mostly grows row by row, and fewer groups that are wide touch its edge.
+const WIDE: u64 = 4;
+
+/// The bits of the row and of the column of this number in turn: places whose keys are near mostly lie near to one another.
 fn place_key(number: u64, rows: u64, columns: u64) -> u64 {
     let columns = columns.max(1);
     let row = number / columns % rows.max(1);
-    spread(row) << 1 | spread(number % columns)
+    spread(row) << 1 | spread(number % columns / WIDE)
 }
 
 /// The lower half of the bits, each with none between it and the next one.
