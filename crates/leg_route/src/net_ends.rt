@@ -63,14 +63,21 @@ pub(crate) fn net_ends<A: Allocator + Copy>(
     })
 }
 
-/// Puts the ends in an order in which those that stand one behind the other mostly lie near to one another in rows and columns.
+/// So many ends at most are put in an order. Where there are more, most lie in metal as large as the block, and the slots of one shape
+/// stand one behind the other as they are found.
+const MOST_IN_ORDER: usize = 1 << 18;
+
+/// Puts the ends in an order in which those that stand one behind the other mostly lie near to one another in rows and columns, if they
+/// are not too many.
 fn sort_ends<A: Allocator + Copy>(grid: &Grid<'_, '_, A>, ends: &mut Vec<EndSlot, A>)
     ensures from { (end : EndSlot) → Contains ends.new.items end → Contains ends.old.items end }
     ensures to { (end : EndSlot) → Contains ends.old.items end → Contains ends.new.items end }
 {
     let rows = grid.rows() as u64;
     let columns = grid.columns() as u64;
-    ends.sort_unstable_by_key(|end| place_key(u64::from(end.slot), rows, columns));
+    if ends.len() <= MOST_IN_ORDER {
+        ends.sort_unstable_by_key(|end| place_key(u64::from(end.slot), rows, columns));
+    }
 }
 
 /// So many columns count as one row in the order of ends. Of ends that are equally near, the one in the first row comes first, so the
