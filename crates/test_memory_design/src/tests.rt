@@ -2,15 +2,12 @@
 //! was, or they answer what they answer with ample memory.
 
 mod changes;
-mod commands;
 mod comparisons;
 mod no_rounds;
 mod two_nets;
 mod wires;
 
 use changes::Change;
-use commands::Asked;
-use leg_app::Command;
 use leg_lib_records::Library;
 use std::alloc::{Allocator, Global};
 use test_alloc::RefusingAlloc;
@@ -141,64 +138,9 @@ fn nets_get_wires_without_memory(rt: HostRuntime) {
     }
 }
 
-const COMMANDS: [Command; 7] = [
-    Command::Check,
-    Command::PlaceCheck,
-    Command::Measure,
-    Command::Legalise,
-    Command::Route,
-    Command::Flow,
-    Command::Finish,
-];
-
-/// Whether each command on the DEF goes right with each allocation refused in turn.
-fn are_commands_right<A: Allocator + Copy>(
-    alloc: A,
-    held: Global,
-    refusing: &RefusingAlloc<Global>,
-    def: &[u8],
-) -> bool {
-    for command in COMMANDS {
-        if !commands::goes_right(alloc, held, refusing, Asked { command, def }) {
-            return false;
-        }
-    }
-    true
-}
-
-#[test]
-fn commands_on_cells_at_one_place_without_memory(rt: HostRuntime) {
-    let refusing = &RefusingAlloc::new(rt.alloc());
-    assert!(rt; are_commands_right(refusing, rt.alloc(), refusing, two_at_one_place()));
-}
-
-#[test]
-fn commands_on_a_net_at_one_place_without_memory(rt: HostRuntime) {
-    let refusing = &RefusingAlloc::new(rt.alloc());
-    assert!(rt; are_commands_right(refusing, rt.alloc(), refusing, net_at_one_place()));
-}
-
-#[test]
-fn commands_around_an_obstruction_without_memory(rt: HostRuntime) {
-    let refusing = &RefusingAlloc::new(rt.alloc());
-    assert!(rt; are_commands_right(refusing, rt.alloc(), refusing, around_an_obstruction()));
-}
-
-#[test]
-fn commands_in_a_blockage_without_memory(rt: HostRuntime) {
-    let refusing = &RefusingAlloc::new(rt.alloc());
-    assert!(rt; are_commands_right(refusing, rt.alloc(), refusing, in_a_blockage()));
-}
-
 #[test]
 fn differences_without_memory(rt: HostRuntime) {
     let refusing = &RefusingAlloc::new(rt.alloc());
     let library = &library_of_cells(refusing).expect(&rt, "memory");
     assert!(rt; comparisons::are_told(refusing, refusing, library));
-}
-
-#[test]
-fn comparisons_without_memory(rt: HostRuntime) {
-    let refusing = &RefusingAlloc::new(rt.alloc());
-    assert!(rt; comparisons::is_run_right(refusing, rt.alloc(), refusing));
 }

@@ -258,3 +258,49 @@ END NETS
 END DESIGN
 "
 }
+
+/// Two components, two nets and a supply net, in the bytes that are printed of them.
+pub fn before_changes() -> &'static [u8] {
+    b"VERSION 5.8 ;
+DESIGN top ;
+UNITS DISTANCE MICRONS 1000 ;
+DIEAREA ( 0 0 ) ( 1200 2000 ) ;
+COMPONENTS 2 ;
+- u1 INV + PLACED ( 0 0 ) N ;
+- u2 INV + PLACED ( 400 0 ) N ;
+END COMPONENTS
+SPECIALNETS 1 ;
+- vdd ( u1 VDD ) ( u2 VDD ) ;
+END SPECIALNETS
+NETS 2 ;
+- n1 ( u1 Y ) ( u2 A )
+  + ROUTED m1 ( 300 900 ) ( 500 900 ) ;
+- n2 ( u2 Y ) ;
+END NETS
+END DESIGN
+"
+}
+
+/// What those became. The die is another one; u1 is gone, u2 stands elsewhere, and u3 is added; vdd and n2 have other terminals, n1 too, and a
+/// wire more.
+pub fn after_changes() -> &'static [u8] {
+    b"VERSION 5.8 ;
+DESIGN top ;
+UNITS DISTANCE MICRONS 1000 ;
+DIEAREA ( 0 0 ) ( 1600 2000 ) ;
+COMPONENTS 2 ;
+- u3 INV + PLACED ( 0 0 ) N ;
+- u2 INV + PLACED ( 800 0 ) N ;
+END COMPONENTS
+SPECIALNETS 1 ;
+- vdd ( u3 VDD ) ( u2 VDD ) ;
+END SPECIALNETS
+NETS 2 ;
+- n2 ( u3 Y ) ( u2 Y ) ;
+- n1 ( u2 A )
+  + ROUTED m1 ( 300 900 ) ( 500 900 )
+  NEW m1 ( 700 900 ) ( 900 900 ) ;
+END NETS
+END DESIGN
+"
+}

@@ -1,0 +1,78 @@
+//! Two designs that are compared.
+
+use leg_app::{RunFault, Status, run_compare};
+use std::alloc::{Allocator, Global};
+use test_alloc::{Refused, RefusingAlloc, Turn, Turns};
+use test_memory::is_last;
+use test_texts::{after_changes, before_changes, cells};
+
+/// What a comparison says of the two texts.
+const LINES: &[u8] = b"DIFFERS DIEAREA
+GONE COMPONENT u1
+CHANGED COMPONENT u2 PLACE
+ADDED COMPONENT u3
+CHANGED SPECIALNET vdd TERMINALS
+CHANGED NET n1 TERMINALS
+CHANGED NET n1 MOREWIRES
+CHANGED NET n2 TERMINALS
+differs 8
+";
+
+/// How a comparison ended, and what it wrote.
+#[derive(Drop)]
+struct Answered {
+    ended: Result<Status, RunFault>,
+    turn: Turn,
+    out: Vec<u8>,
+}
+
+/// Runs the comparison, which writes into a list that is never refused.
+fn ran<A: Allocator + Copy>(
+    alloc: A,
+    held: Global,
+    refusing: &RefusingAlloc<Global>,
+    refused: Refused,
+) -> Answered {
+    let mut out = Vec::new(held);
+    refusing.refuse(refused);
+    let ended = match run_compare(
+        alloc,
+        &[cells()],
+        before_changes(),
+        after_changes(),
+        &mut out,
+    ) {
+        Ok(end) => Ok(end.status),
+        Err(fault) => Err(fault),
+    };
+    let turn = refusing.turn_ended(ended == Ok(Status::Memory));
+    Answered { ended, turn, out }
+}
+
+/// Whether the run answers what it is to answer, or that memory ran out.
+fn is_right(run: &Answered) -> bool {
+    if run.turn.refused {
+        run.out.as_slice() == b"MEMORY\n".as_slice()
+    } else {
+        run.ended == Ok(Status::Violations) && run.out.as_slice() == LINES
+    }
+}
+
+/// Whether a comparison of the two texts answers rightly whichever allocation is refused.
+pub(super) fn goes_right<A: Allocator + Copy>(
+    alloc: A,
+    held: Global,
+    refusing: &RefusingAlloc<Global>,
+) -> bool {
+    let mut turns = Turns::new();
+    for number in 1..Turns::LIMIT {
+        let run = ran(alloc, held, refusing, Refused::Growth(number));
+        let turn = is_right(&run).then_some(run.turn);
+        match is_last(&mut turns, number, turn) {
+            Some(false) => {}
+            Some(true) => return true,
+            None => return false,
+        }
+    }
+    false
+}
