@@ -267,6 +267,19 @@ class PremiseTests(DoctoredTests):
             self.assertEqual(self.found(text), set())
 
 
+class NameTests(DoctoredTests):
+    """Names of files of specs/ and proofs/."""
+    crates = ('leg_geom',)
+
+    def test_names_that_end_with_a_participle(self):
+        self.assertEqual(said(docs.check_names, self.copy), set())
+        wrong = ('specs/Told.antt', 'specs/Steps/EdgesSorted.antt', 'proofs/PointsKept.antt', 'proofs/Added.antt')
+        right = ('specs/WellFormed.antt', 'specs/Steps/SortedEdges.antt', 'proofs/KeptPoints.antt', 'proofs/added/Answers.antt')
+        for path in (*wrong, *right):
+            self.copy.write(f'crates/leg_geom/{path}', '-- Nothing.\n')
+        self.assertEqual(said(docs.check_names, self.copy), {f'crates/leg_geom/{path}: its name ends with a participle' for path in wrong})
+
+
 class GateTests(DoctoredTests):
     """tests/edits/gate."""
     crates = ()

@@ -1,5 +1,5 @@
 -- Answers of every command.
-use Rattle.std.proofs.Common.{◌≡◌, ℕ, false, List, Option, None, Some, is_some, option_map, Result, Ok, Err, IfOk, IfErr, OnErr, codes, inl, inr, refl, sym, arith}
+use Rattle.std.proofs.Common.{◌≡◌, ℕ, false, List, Option, None, Some, is_some, option_map, Result, Ok, Err, IfOk, codes, inl, inr, refl, sym, arith}
 use Rattle.std.proofs.lemmas.Fmt.{decimal_digit}
 use Rattle.std.proofs.lemmas.Bool.{false≢true}
 use Rattle.leg_app_input.specs.declared.command.Command.{Command}
@@ -20,11 +20,6 @@ use Rattle.leg_app.specs.Answer.{IsListing}
 use Rattle.leg_app.specs.Steps.Making.{IsMaking}
 use Rattle.leg_app.specs.Steps.OneLibrary.{DenoteNoLibrary}
 use Rattle.leg_app.specs.Steps.FaultReasons.{IsOfMaster}
-
--- what is weaker holds of what is answered too
-pub ok_weaker : {T E : Type 0} (P Q : T → Type 0) (r : Result T E) → ((t : T) → P t → Q t) → IfOk r P → IfOk r Q
-ok_weaker P Q (Ok t) weaker holds = weaker t holds
-ok_weaker P Q (Err e) weaker holds = tt
 
 -- what two clauses say holds of one answer
 pub ok_both : {T E : Type 0} (P Q : T → Type 0) (r : Result T E) → IfOk r P → IfOk r Q → IfOk r (λ t. P t × Q t)
@@ -53,10 +48,6 @@ much_is_why (faults.Read fault) apart known h much = absurd (apart much (h known
 much_is_why (faults.Scale fault units) apart known h much = absurd (apart much (h known))
 much_is_why faults.TooMany apart known h much = refl
 much_is_why faults.Memory apart known h much = absurd (known tt)
-
-pub err_weaker : {T E : Type 0} (P Q : E → Type 0) (r : Result T E) → ((e : E) → P e → Q e) → IfErr r P → IfErr r Q
-err_weaker P Q (Ok t) weaker holds = tt
-err_weaker P Q (Err e) weaker holds = weaker e holds
 
 -- what isn't there isn't seen
 pub nothing_there : {X Y : Type 0} (f : X → Y) (o : Option X) → is_some o ≡ false → option_map f o ≡ None

@@ -4,15 +4,13 @@ use Rattle.std.specs.List.{All, flat_map}
 use Rattle.std.proofs.lemmas.List.Elements.{All-weaker, All-head, All-tail}
 use Rattle.leg_lib_records.specs.Records.{LibraryModel}
 use Rattle.leg_design_records.specs.Records.{DesignModel}
-use Rattle.leg_rules.specs.declared.difference.Section.TheVariants.{Components, Nets}
-use Rattle.leg_rules.specs.declared.difference.Change.TheVariants.{Place, MoreWires}
 use Rattle.leg_rules.specs.declared.difference.Difference.{Difference}
-use Rattle.leg_rules.specs.declared.difference.Difference.TheVariants.{Changed}
 use Rattle.leg_rules.specs.declared.difference.Verdict.{Verdict}
 use Rattle.leg_rules.specs.declared.difference.Verdict.TheVariants.{Same, Places, Wires, PlacesAndWires, Differs}
 use Rattle.leg_rules.specs.Compare.Differences.{IsDifference}
 use Rattle.leg_rules.specs.Compare.Order.{AreAllDifferences}
 use Rattle.leg_rules.specs.Compare.Verdicts.{IsMove, IsGrowth, HasSoMany, IsVerdict}
+use Rattle.leg_compare.proofs.Counts.{OfAKind, not_both}
 use Rattle.leg_app.specs.declared.status.Status.{Status}
 use Rattle.leg_app.specs.declared.status.Status.TheVariants.{Success, Violations, Refused, Unsolved, Memory}
 use Rattle.leg_grammar.specs.Texts.{DenoteDesign}
@@ -27,20 +25,14 @@ none_so P Q apart (x ∷ xs) n each (inl h) = absurd (apart x (All-head Q x xs e
 none_so P Q apart (x ∷ xs) n each (inr h) = none_so P Q apart xs n (All-tail Q x xs each) h.1
 
 module _ (first : DesignModel) where
-  abbrev OfAKind : Difference → Type 0
-  OfAKind d = IsMove first d ⊎ IsGrowth d
-
-  not_both : (d : Difference) → IsMove first d → IsGrowth d → ⊥
-  not_both d move growth = (let same : Changed Components Place move.i ≡ Changed Nets MoreWires growth.i = sym move.is ∙ growth.is in cc)
-
   no_growth : (list : List Difference) (n : ℕ) → All (IsMove first) list → 0 < n → HasSoMany IsGrowth list n → ⊥
   no_growth list n each some h =
-      let none : n ≡ 0 = none_so IsGrowth (IsMove first) not_both list n each h in
+      let none : n ≡ 0 = none_so IsGrowth (IsMove first) (not_both first) list n each h in
       omega (arith, none, some)
 
   no_move : (list : List Difference) (n : ℕ) → All IsGrowth list → 0 < n → HasSoMany (IsMove first) list n → ⊥
   no_move list n each some h =
-      let none : n ≡ 0 = none_so (IsMove first) IsGrowth (λ d growth move. not_both d move growth) list n each h in
+      let none : n ≡ 0 = none_so (IsMove first) IsGrowth (λ d growth move. not_both first d move growth) list n each h in
       omega (arith, none, some)
 
   of_places : (list : List Difference) (v : Verdict) → All (IsMove first) list → IsVerdict first list v → IsOfPlaces v
@@ -48,16 +40,16 @@ module _ (first : DesignModel) where
   of_places list (Places moves) each judged = tt
   of_places list (Wires growths) each judged = no_growth list growths each judged.0 judged.1.growths_
   of_places list (PlacesAndWires moves growths) each judged = no_growth list growths each judged.1 judged.2.growths_
-  of_places list (Differs count) each judged = judged.1 (All-weaker (IsMove first) OfAKind (λ d move. inl move) list each)
+  of_places list (Differs count) each judged = judged.1 (All-weaker (IsMove first) (OfAKind first) (λ d move. inl move) list each)
 
   of_wires : (list : List Difference) (v : Verdict) → All IsGrowth list → IsVerdict first list v → IsOfWires v
   of_wires list Same each judged = tt
   of_wires list (Places moves) each judged = no_move list moves each judged.0 judged.1.moves_
   of_wires list (Wires growths) each judged = tt
   of_wires list (PlacesAndWires moves growths) each judged = no_move list moves each judged.0 judged.2.moves_
-  of_wires list (Differs count) each judged = judged.1 (All-weaker IsGrowth OfAKind (λ d growth. inr growth) list each)
+  of_wires list (Differs count) each judged = judged.1 (All-weaker IsGrowth (OfAKind first) (λ d growth. inr growth) list each)
 
-  of_both : (list : List Difference) (v : Verdict) → All OfAKind list → IsVerdict first list v → IsOfPlacesAndWires v
+  of_both : (list : List Difference) (v : Verdict) → All (OfAKind first) list → IsVerdict first list v → IsOfPlacesAndWires v
   of_both list Same each judged = tt
   of_both list (Places moves) each judged = tt
   of_both list (Wires growths) each judged = tt

@@ -1,7 +1,7 @@
 -- Lists of violations of some kinds, one behind the other, are the list of all.
 use Rattle.std.proofs.Common.{◌≡◌, ◌<◌, ◌≤◌, List, ◌++◌, ◌⊎◌, inl, inr, subst, arith}
 use Rattle.std.proofs.lemmas.List.Elements.{All-append, All-weaker, Contains-append_left, Contains-append_right}
-use Rattle.leg_lemmas.proofs.Rising.{AllPairs-append_by}
+use Rattle.leg_lemmas.proofs.RisingLists.{AllPairs-append_by}
 use Rattle.leg_lib_records.specs.Records.{LibraryModel}
 use Rattle.leg_design_records.specs.Records.{DesignModel}
 use Rattle.leg_design_records.specs.declared.fault.Fault.{Fault}
@@ -11,7 +11,7 @@ use Rattle.leg_design_records.proofs.FaultNumbers.{lower_kind_first}
 use Rattle.leg_rules.specs.Metal.Flat.{FlatModel, IsFlatOf}
 use Rattle.leg_flat.proofs.OneFlat.{one_flat}
 use Rattle.leg_rules.specs.Placement.Violations.{IsPlacementViolation}
-use Rattle.leg_place.proofs.PlaceFaults.{kind_below}
+use Rattle.leg_place.proofs.PlaceFaults.{kind_below, same_list}
 use Rattle.leg_rules.specs.Spacing.Violations.{IsSpacingViolation}
 use Rattle.leg_rules.specs.Spacing.Violations.IsSpacingViolation.{short, too_near}
 use Rattle.leg_rules.specs.Joins.Violations.{IsOpenViolation}
@@ -27,14 +27,6 @@ both_lists P Q xs ys lower first second = record {
   each = All-append (λ v. P v ⊎ Q v) xs ys (All-weaker P (λ v. P v ⊎ Q v) (λ v p. inl p) xs first.each)
       (All-weaker Q (λ v. P v ⊎ Q v) (λ v q. inr q) ys second.each);
   all = λ v h. elim h [ inl p ↦ Contains-append_left xs ys v (first.all v p) | inr q ↦ Contains-append_right xs ys v (second.all v q) ];
-}
-
--- a list of what is the same in other words
-same_list : (P Q : Fault → Type 0) (xs : List Fault) → ((v : Fault) → P v → Q v) → ((v : Fault) → Q v → P v) → IsListOf P xs → IsListOf Q xs
-same_list P Q xs there back list = record {
-  increasing = list.increasing;
-  each = All-weaker P Q there xs list.each;
-  all = λ v q. list.all v (back v q);
 }
 
 -- shorts come after the kinds of placement and before open pieces
@@ -78,7 +70,7 @@ module _ (design : DesignModel) (flat : FlatModel) (is_flat : IsFlatOf design fl
       let metal =
       both_lists (IsSpacingViolation design.library flat) (IsOpenViolation design flat) ys zs
       (λ v w s o. omega (arith, spacing_before design.library flat v s, open_last design flat w o)) spaced opened in
-      same_list (λ v. IsPlacementViolation design v ⊎ IsInFlat design flat v) (IsViolation design) (xs ++ (ys ++ zs))
+      same_list (λ v. IsPlacementViolation design v ⊎ IsInFlat design flat v) (IsViolation design)
       (λ v h. elim h [ inl p ↦ inl p | inr m ↦ inr (record { flat = flat; is_flat = is_flat; holds = m }) ])
-      (λ v h. elim h [ inl p ↦ inl p | inr m ↦ inr (in_this_flat v m) ])
+      (λ v h. elim h [ inl p ↦ inl p | inr m ↦ inr (in_this_flat v m) ]) (xs ++ (ys ++ zs))
       (both_lists (IsPlacementViolation design) (IsInFlat design flat) xs (ys ++ zs) placement_first placed metal)

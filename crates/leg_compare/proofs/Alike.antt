@@ -19,7 +19,7 @@ use Rattle.leg_rules.specs.declared.difference.Difference.TheVariants.{Whole, Go
 use Rattle.leg_rules.specs.Compare.Sections.{names_of}
 use Rattle.leg_rules.specs.Compare.Spelling.{spelled_terminal, spelled_terminals, spelled_wire, spelled_wires}
 use Rattle.leg_rules.specs.Compare.Differences.{DiffersInPart, DiffersAsVia, DiffersAsComponent, DiffersAsPin, DiffersAsNet, DifferAt, HasChanged, IsDifference}
-use Rattle.leg_compare.proofs.SetsTold.{same_if_equal}
+use Rattle.leg_compare.proofs.TerminalSets.{same_if_equal}
 
 -- no two entries of a section have one name
 pub names_apart : (design : DesignModel) → IsWellFormed design → (section : Section) → AreApart (names_of section design)

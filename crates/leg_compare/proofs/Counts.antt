@@ -31,7 +31,7 @@ module _ (first : DesignModel) where
   abbrev pub OfAKind : Difference → Type 0
   OfAKind d = IsMove first d ⊎ IsGrowth d
 
-  not_both : (d : Difference) → IsMove first d → IsGrowth d → ⊥
+  pub not_both : (d : Difference) → IsMove first d → IsGrowth d → ⊥
   not_both d move growth =
       let same : Changed Components Place move.i ≡ Changed Nets MoreWires growth.i = sym move.is ∙ growth.is in
       let no : ⊥ = cc in no

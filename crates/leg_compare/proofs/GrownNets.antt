@@ -21,7 +21,7 @@ use Rattle.leg_rules.specs.Compare.Sections.{names_of}
 use Rattle.leg_rules.specs.Compare.Spelling.{spelled_terminal, spelled_terminals, spelled_wire, spelled_wires}
 use Rattle.leg_rules.specs.Compare.Differences.{DiffersInPart, DiffersAsVia, DiffersAsComponent, DiffersAsPin, DiffersAsNet, DifferAt, HasChanged, IsDifference}
 use Rattle.leg_rules.specs.Compare.Verdicts.{IsGrowth}
-use Rattle.leg_compare.proofs.SetsTold.{same_if_equal}
+use Rattle.leg_compare.proofs.TerminalSets.{same_if_equal}
 use Rattle.leg_compare.proofs.Alike.{names_apart, AreAlike, IsChangeAt, only_changes, none_differ, same_via, same_component, same_pin, same_net, goes_on_itself, terminals_same}
 
 -- entries that correspond have one name, and stand at one place

@@ -3,17 +3,17 @@ mod Decisions
 mod ListsAlike
 mod Growth
 mod WordSearch
-mod Named
+mod EntryNames
 mod Entries
 -- The list of differences
 mod Ranks
 mod DifferenceLists
 mod BetweenRanks
 -- The verdict
-mod Counts
+pub mod Counts
 -- Values that can be told apart
 mod Codes
-mod SetsTold
+mod TerminalSets
 -- What legalising and routing change
 mod Alike
 mod MovedPlaces

@@ -27,7 +27,7 @@ use Rattle.leg_rules.specs.Compare.Spelling.{spelled_terminals, spelled_wires}
 use Rattle.leg_rules.specs.Compare.Differences.{DiffersAsVia, DiffersAsComponent, DiffersAsPin, DiffersAsNet, DifferAt, IsDifference}
 use Rattle.leg_compare.specs.Same.{HasSame, AreSameByName, IsSameNet, IsSameDesign}
 use Rattle.leg_compare.proofs.Alike.{names_apart}
-use Rattle.leg_compare.proofs.SetsTold.{terminals_told}
+use Rattle.leg_compare.proofs.TerminalSets.{terminals_told}
 use Rattle.leg_compare.proofs.Codes.{told_in, same_if, words_told, vias_told, places_told, statuses_told, ports_told, wires_told, numbers_told, names_told}
 
 -- Lists of named elements of which none is missing in the other, and none has changed, are the same by name.

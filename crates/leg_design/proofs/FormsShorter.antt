@@ -10,7 +10,7 @@ use Rattle.leg_grammar.specs.Def.NetScope.{NetScopeModel}
 use Rattle.leg_design_records.specs.Records.{NetModel}
 use Rattle.leg_grammar.specs.Def.Net.{net_entry, section_word, nets_at}
 use Rattle.leg_grammar.specs.Def.Parts.{DesignParts, net_scope, divider_form, bus_form, name_form, units_form, die_form, row_form, track_form, vias_form, components_form, pins_form, blockages_form, nets_form, special_form}
-use Rattle.leg_grammar.specs.Def.Skipped.{is_past_statement, is_past_section, past_def_section, past_def_extension, past_def_form}
+use Rattle.leg_grammar.specs.Def.SkippedForms.{is_past_statement, is_past_section, past_def_section, past_def_extension, past_def_form}
 use Rattle.leg_grammar.specs.Def.Form.{header_form, def_form_at}
 use Rattle.leg_design_common.proofs.Sections.{section_below}
 use Rattle.leg_design.proofs.Headers.{word_after_below, design_name_below, units_below}

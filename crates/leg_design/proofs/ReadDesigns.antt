@@ -19,7 +19,7 @@ use Rattle.leg_design_records.specs.WellFormed.{IsWellFormed}
 use Rattle.leg_design_common.proofs.Gives.{Gives, gives_some, gives_bind, gives_skip, when_gives, unless_gives}
 use Rattle.leg_design_nets.proofs.ReadTerminals.{IsKnownTerminal}
 use Rattle.leg_design_nets.proofs.ReadNets.{IsKnownNet}
-use Rattle.leg_design_nets.proofs.LonePinsListed.{lone_pins_listed}
+use Rattle.leg_design_nets.proofs.EntriesWithLonePins.{lone_pins_listed}
 use Rattle.leg_design.proofs.Designs.{all_terminals}
 use Rattle.leg_design.proofs.ReadForms.{HasSoundParts, form_keeps, no_parts_sound}
 use Rattle.leg_design.proofs.ReadNetForms.{HasNetParts, lists_of, net_form_keeps, no_net_parts}

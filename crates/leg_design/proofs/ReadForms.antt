@@ -11,7 +11,7 @@ use Rattle.leg_grammar.specs.Def.Header.{word_after, design_name_at, units_at}
 use Rattle.leg_grammar.specs.Def.Net.{nets_at}
 use Rattle.leg_design_records.specs.Records.{TrackModel, PinModel, BlockageModel}
 use Rattle.leg_grammar.specs.Def.Parts.{DesignParts, no_parts, net_scope, divider_form, bus_form, name_form, units_form, die_form, row_form, track_form, vias_form, components_form, pins_form, blockages_form, nets_form, special_form}
-use Rattle.leg_grammar.specs.Def.Skipped.{past_def_form}
+use Rattle.leg_grammar.specs.Def.SkippedForms.{past_def_form}
 use Rattle.leg_grammar.specs.Def.Form.{header_form, def_form_at}
 use Rattle.leg_design_records.specs.WellFormedParts.{IsKept, IsArea, AreComponents, IsRow, IsTrack, AreVias, ArePins, AreBlockages}
 use Rattle.leg_design_common.proofs.Gives.{Gives, gives_some, gives_bind, gives_skip, gives_if, name_gives, word_gives}

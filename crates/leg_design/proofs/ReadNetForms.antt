@@ -18,13 +18,13 @@ use Rattle.leg_grammar.specs.Def.Blockage.{blockages_at}
 use Rattle.leg_grammar.specs.Def.LonePins.{NetLists}
 use Rattle.leg_design_records.specs.Records.{NetModel, wire_count}
 use Rattle.leg_grammar.specs.Def.Parts.{DesignParts, no_parts, net_scope, divider_form, bus_form, name_form, units_form, die_form, row_form, track_form, vias_form, components_form, pins_form, blockages_form, nets_form, special_form}
-use Rattle.leg_grammar.specs.Def.Skipped.{past_def_form}
+use Rattle.leg_grammar.specs.Def.SkippedForms.{past_def_form}
 use Rattle.leg_grammar.specs.Def.Form.{header_form, def_form_at}
 use Rattle.leg_design_records.specs.WellFormedNets.{AreInOneNet}
 use Rattle.leg_design_common.proofs.Gives.{Gives, gives_some, gives_bind, gives_skip, gives_if, unless_gives}
 use Rattle.leg_design_nets.proofs.ReadNets.{IsKnownNet, AreEntries, nets_give}
 use Rattle.leg_design_nets.proofs.ReadLonePins.{HasEntries}
-use Rattle.leg_design_nets.proofs.MoreKnown.{Grows, nets_grow, vias_grow, components_grow, pins_grow}
+use Rattle.leg_design_nets.proofs.LaterScopes.{Grows, nets_grow, vias_grow, components_grow, pins_grow}
 
 abbrev pub lists_of : List NetModel → List NetModel → NetLists
 lists_of nets special = record { nets = nets; special = special }

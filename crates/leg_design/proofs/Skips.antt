@@ -3,7 +3,7 @@ use Rattle.std.proofs.Common.{◌≡◌, ℕ, List, [], ◌∷◌, None, Some, r
 use Rattle.leg_lex.specs.Words.{Words, next_at, end_at}
 use Rattle.leg_lex.specs.Past.{past}
 use Rattle.leg_lex.proofs.Parts.{made_is, rest_is}
-use Rattle.leg_grammar.specs.Def.Skipped.{past_def_section}
+use Rattle.leg_grammar.specs.Def.SkippedForms.{past_def_section}
 
 pub past_section_from : (words : Words) (keyword : List ℕ) (rest : Words) → next_at words ≡ Some (keyword, rest)
     → past_def_section words ≡ past (end_at keyword) rest

@@ -2,7 +2,7 @@
 
 ghost use Rattle.std.specs.Prelude.{◌≡◌, codes};
 ghost use Rattle.leg_lex.specs.Words.{Reads};
-ghost use Rattle.leg_grammar.specs.Def.Skipped.{is_past_statement, is_past_section, past_def_section, past_def_extension, past_def_form};
+ghost use Rattle.leg_grammar.specs.Def.SkippedForms.{is_past_statement, is_past_section, past_def_section, past_def_extension, past_def_form};
 
 use leg_lex::{Cursor, FaultKind, Keyword, Need, ReadFault};
 
@@ -42,7 +42,7 @@ fn past_section(words: &mut Cursor<'_, '_>) -> Result<(), ReadFault>
 }
 
 /// `BEGINEXT`, and everything up to `ENDEXT`.
-#[tactic(auto, unfolding(leg_grammar::specs::Def::Skipped::past_def_extension))]
+#[tactic(auto, unfolding(leg_grammar::specs::Def::SkippedForms::past_def_extension))]
 fn past_extension(words: &mut Cursor<'_, '_>) -> Result<(), ReadFault>
     ensures { Reads (λ x. x) result words.new (past_def_extension words.old) }
 {
@@ -61,7 +61,7 @@ fn no_form(words: &Cursor<'_, '_>) -> ReadFault {
 }
 
 /// A form without effect. A word that begins no form is `Unexpected`.
-#[tactic(auto, unfolding(leg_grammar::specs::Def::Skipped::past_def_form))]
+#[tactic(auto, unfolding(leg_grammar::specs::Def::SkippedForms::past_def_form))]
 pub(crate) fn past_form(words: &mut Cursor<'_, '_>) -> Result<(), ReadFault>
     ensures { Reads (λ x. x) result words.new (past_def_form words.old) }
 {

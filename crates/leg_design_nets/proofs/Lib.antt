@@ -2,9 +2,9 @@
 pub mod NetEntries
 pub mod ReadTerminals
 pub mod ReadNets
-pub mod MoreKnown
+pub mod LaterScopes
 pub mod ReadLonePins
-pub mod LonePinsListed
+pub mod EntriesWithLonePins
 pub mod LonePins
 -- Pins of macros by their names.
 mod NamedNumbers
@@ -14,7 +14,7 @@ mod PinsOfAll
 -- Terminals, and which entry lists them.
 mod TerminalLists
 mod ListedNets
-mod ReadListed
+mod TerminalsOfEntries
 mod MoreTerminals
 -- Paths, item by item.
 mod Paths

@@ -1,9 +1,9 @@
 -- Which entries list a terminal, told by the index of their section.
-use Rattle.std.proofs.Common.{◌≡◌, ◌≢◌, ℕ, zero, suc, ◌+◌, ◌<◌, ◌≤◌, nat_lt, Bool, true, false, cond, not, ◌&&◌, ◌||◌, ◌==◌, List, [], ◌∷◌, ◌++◌, length, get_or, slice_get, Option, None, Some, is_some, refl, sym, ap, ◌∙◌, arith, length-append}
+use Rattle.std.proofs.Common.{◌≡◌, ◌≢◌, ℕ, zero, suc, ◌+◌, ◌<◌, nat_lt, Bool, true, false, cond, not, ◌&&◌, ◌||◌, ◌==◌, List, [], ◌∷◌, ◌++◌, length, get_or, slice_get, Option, None, Some, is_some, refl, sym, ap, ◌∙◌, arith, length-append}
 use Rattle.std.specs.Str.{bytes_eq}
 use Rattle.std.proofs.lemmas.Bool.{false_from_ne_true, false≢true}
 use Rattle.std.proofs.lemmas.Bool.Decides.{nat_tests}
-use Rattle.std.proofs.lemmas.List.{get_or_append_left, get_or-map}
+use Rattle.std.proofs.lemmas.List.{get_or_append_left, get_or-map, get_or_past}
 use Rattle.std.proofs.lemmas.List.Folds.{list_any-append, list_any_at, list_any_none}
 use Rattle.std.proofs.lemmas.Option.{get_or_from_slice_get, slice_get_within, slice_get-get_or}
 use Rattle.std.proofs.Math.Seq.{get_or-append_seam}
@@ -26,11 +26,6 @@ lists_length (net ∷ nets) = ap suc (lists_length nets)
 -- the terminals of the entry j
 list_at : (nets : List NetModel) (j : ℕ) (d : NetModel) → j < length nets → get_or (lists_of nets) j [] ≡ (get_or nets j d).terminals
 list_at nets j d less = get_or-map (λ net. net.terminals) nets j d [] less
-
-list_beyond : (xs : List (List Terminal)) (j : ℕ) → length xs ≤ j → get_or xs j [] ≡ []
-list_beyond [] j past = refl
-list_beyond (x ∷ xs) zero past = absurd (omega arith)
-list_beyond (x ∷ xs) (suc j) past = list_beyond xs j (omega arith)
 
 -- the same with the list of the entry that is being read behind
 module _ (nets : List NetModel) (ts : List Terminal) where
@@ -107,7 +102,7 @@ module _ (number : Terminal → Option ℕ) (nets : List NetModel) (index : IsNa
     by : (before : Bool) → nat_lt k (length nets) ≡ before → k < length nets
     by true before = grind (arith, nat_tests, before)
     by false past =
-        let beyond : get_or (lists_of nets) k [] ≡ [] = list_beyond (lists_of nets) k (grind (arith, nat_tests, past, lists_length nets)) in
+        let beyond : get_or (lists_of nets) k [] ≡ [] = get_or_past (lists_of nets) k [] (grind (arith, nat_tests, past, lists_length nets)) in
         absurd (false≢true (rw beyond at ((index t k).0 found)))
 
   pub other_found : (name : List ℕ) (k : ℕ) (net : NetModel) → number t ≡ Some k → slice_get nets k ≡ Some net
@@ -160,7 +155,7 @@ module _ (number : Terminal → Option ℕ) (nets : List NetModel) (ts : List Te
     by (Some k) found =
         let past : nat_lt k (length nets) ≡ false = sym (listed_before k found) ∙ before in
         let other : (k == length nets) ≡ false = sym (among_begun k found) ∙ here in
-        let beyond : get_or (lists_of nets ++ ts ∷ []) k [] ≡ [] = list_beyond (lists_of nets ++ ts ∷ []) k
+        let beyond : get_or (lists_of nets ++ ts ∷ []) k [] ≡ [] = get_or_past (lists_of nets ++ ts ∷ []) k []
         (grind (arith, nat_tests, past, other, lists_length nets, length-append (lists_of nets) (ts ∷ []))) in
         absurd (false≢true (rw beyond at ((index t k).0 found)))
 

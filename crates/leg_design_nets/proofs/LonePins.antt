@@ -1,7 +1,7 @@
 -- Pins of the design that no net lists, one after the other, and an entry with one more terminal.
 use Rattle.std.proofs.Common.{◌≡◌, ◌≢◌, ℕ, zero, suc, ◌+◌, ◌<◌, ◌≤◌, Bool, true, false, ◌||◌, if◌then◌else◌, List, [], ◌∷◌, ◌++◌, length, get_or, take, drop, slice_get, slice_set, Option, None, Some, refl, sym, ap, ◌∙◌, arith, add-one, length-append}
 use Rattle.std.proofs.lemmas.List.{drop_all, take_all, append-nil}
-use Rattle.std.proofs.lemmas.Option.{slice_get-get_or}
+use Rattle.std.proofs.lemmas.Option.{slice_get-get_or, slice_get_within}
 use Rattle.leg_lex.proofs.EachElement.{at_front}
 use Rattle.leg_design_records.specs.declared.records.Terminal.{Terminal}
 use Rattle.leg_design_records.specs.declared.records.Terminal.TheVariants.{Pin}
@@ -70,11 +70,6 @@ set_wires (first ∷ nets) zero net after there same =
 set_wires (first ∷ nets) (suc k) net after there same =
     ap (λ n. length first.wires + n) (set_wires nets k net after there same)
 
-get_within : (nets : List NetModel) (k : ℕ) (net : NetModel) → slice_get nets k ≡ Some net → k < length nets
-get_within [] k net there = absurd (let e : ⊥ = cc in e)
-get_within (first ∷ nets) zero net there = omega arith
-get_within (first ∷ nets) (suc k) net there = let rest = get_within nets k net there in omega (arith, rest)
-
 -- the entry k lists one more terminal
 pub kept_with : (nets after : List NetModel) (k : ℕ) (net : NetModel) (t : Terminal) (names : List (List ℕ)) (number reserved last : Terminal → Option ℕ)
     (terminals wires : ℕ)
@@ -88,7 +83,7 @@ kept_with nets after k net t names number reserved last terminals wires kept the
       indexed =
           index_more number last (lists_of nets) (lists_of (slice_set nets k more)) k t kept.indexed (not_listed number nets kept.indexed t not)
           (λ q. gets.updates q ∙ rw (gets.same q) refl)
-          (set_here nets k more (get_within nets k net there) ∙ ap (λ xs. xs ++ t ∷ []) (sym (list_here nets k net there)))
+          (set_here nets k more (slice_get_within nets k net there) ∙ ap (λ xs. xs ++ t ∷ []) (sym (list_here nets k net there)))
           (λ j other. set_other nets k j more other);
       listed = rw (kept.listed) (sym (set_terminals nets k net more there (length-append net.terminals (t ∷ []))));
       wired = kept.wired ∙ sym (set_wires nets k net more there refl);

@@ -7,7 +7,7 @@ use Rattle.std.proofs.lemmas.Option.{slice_get_within, get_or_from_slice_get}
 use Rattle.leg_design_records.specs.declared.records.Terminal.{Terminal}
 use Rattle.leg_design_records.specs.Records.{NetModel, net_names, wire_count}
 use Rattle.leg_design_records.specs.WellFormedNets.{AreInOneNet}
-use Rattle.leg_design_nets.proofs.ReadListed.{Lists}
+use Rattle.leg_design_nets.proofs.TerminalsOfEntries.{Lists}
 
 -- the entry with one more terminal
 abbrev pub more : Terminal → NetModel → NetModel

@@ -10,7 +10,7 @@ use Rattle.leg_grammar.specs.Def.NetScope.{NetScopeModel}
 use Rattle.leg_design_records.specs.Records.{NetModel, net_names, wire_count}
 use Rattle.leg_grammar.specs.Def.LonePins.{NetLists, with_terminal}
 use Rattle.leg_design_records.specs.WellFormedNets.{AreInOneNet}
-use Rattle.leg_design_nets.proofs.ReadListed.{Lists, not_among}
+use Rattle.leg_design_nets.proofs.TerminalsOfEntries.{Lists, not_among}
 use Rattle.leg_design_records.proofs.SameTerminal.{among_contains}
 use Rattle.leg_design_nets.proofs.MoreTerminals as more_terminals
 use Rattle.leg_design_nets.proofs.MoreTerminals.{more, IsPlacedOn, stands_at, stands_left, stands_right, set_left, set_right}

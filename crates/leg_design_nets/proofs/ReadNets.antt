@@ -23,7 +23,7 @@ use Rattle.leg_design_records.specs.WellFormedNets.{IsWire, AreInOneNet}
 use Rattle.leg_design_common.proofs.Gives.{Gives, gives_none, gives_some, gives_bind, gives_skip, gives_if, unless_gives, name_gives, word_gives, section_gives}
 use Rattle.leg_design_nets.proofs.ReadPaths.{AreWires}
 use Rattle.leg_design_nets.proofs.ReadWiring.{wiring_gives}
-use Rattle.leg_design_nets.proofs.ReadListed.{of_this_net}
+use Rattle.leg_design_nets.proofs.TerminalsOfEntries.{of_this_net}
 use Rattle.leg_design_nets.proofs.ReadTerminals.{AreKnown, AreTerminals, no_terminals, terminal_gives}
 
 module _ (scope : NetScopeModel) (special : Bool) where

@@ -15,7 +15,7 @@ use Rattle.leg_design_records.specs.Records.{PinModel, NetModel, component_names
 use Rattle.leg_design_records.specs.Terminals.{is_among}
 use Rattle.leg_grammar.specs.Def.Terminal.{pin_of_component, with_pin, pins_of_all, component_terminal, pin_terminal, one_terminal_at, all_terminals_at, past_synthesized, terminals_at, is_of_other_net, add_terminal, terminal_form}
 use Rattle.leg_design_common.proofs.Gives.{Gives, gives_none, gives_some, gives_bind, gives_skip, gives_choice, gives_if, gives_itself, each_gives}
-use Rattle.leg_design_nets.proofs.ReadListed.{not_among}
+use Rattle.leg_design_nets.proofs.TerminalsOfEntries.{not_among}
 
 module _ (scope : NetScopeModel) where
   -- a component of this number has a pin of this number

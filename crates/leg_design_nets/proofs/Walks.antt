@@ -1,7 +1,6 @@
 -- A path that is followed item by item.
 use Rattle.std.proofs.Common.{◌≡◌, ℕ, ℤ, ◌+◌, ◌<◌, ◌≤◌, Bool, true, false, List, [], ◌∷◌, ◌++◌, length, ◌-◌, get_or, take, drop, Option, None, Some, option_map, refl, sym, ap, ◌∙◌, append_assoc}
-use Rattle.std.proofs.lemmas.List.{drop_more, drop_all, append-nil, length-drop}
-use Rattle.std.proofs.Math.Seq.{take-length}
+use Rattle.std.proofs.lemmas.List.{drop_more, drop_all, append-nil, take_rest}
 use Rattle.leg_lex.specs.Words.{◌>>=◌}
 use Rattle.leg_geom.specs.Plane.{PointModel, RectModel}
 use Rattle.leg_grammar.specs.declared.path_item.Item.{Item}
@@ -10,11 +9,7 @@ use Rattle.leg_design_records.specs.declared.records.Wire.{Wire}
 use Rattle.leg_design_records.specs.declared.records.Wire.TheVariants.{ViaAt, Patch}
 use Rattle.leg_grammar.specs.Def.NetScope.{NetScopeModel}
 use Rattle.leg_grammar.specs.Def.Path.{next_spot, is_same_spot, extension_at, segment_to, across, wires_from}
-use Rattle.leg_design_nets.specs.Steps.Walk.{Walked, wires_with, walked_to, walked_past}
-
--- all of what is left
-the_rest : (items : List Item) (i : ℕ) → take (length items - i) (drop i items) ≡ drop i items
-the_rest items i = rw (← length-drop i items) (take-length (drop i items))
+use Rattle.leg_design_nets.specs.Steps.Walk.{PathState, wires_with, walked_to, walked_past}
 
 -- one wire before the others
 one_before : (wires : List Wire) (wire : Wire) (others : Option (List Wire))
@@ -24,21 +19,21 @@ one_before wires wire (Some last) = ap Some (sym (append_assoc wires (wire ∷ [
 
 module _ (scope : NetScopeModel) (written : Option ℤ) where
   -- the segment to a point, before these items
-  abbrev segment_then : Walked → PointModel → Option ℤ → List Item → Option Wire
+  abbrev segment_then : PathState → PointModel → Option ℤ → List Item → Option Wire
   segment_then walk to given later = segment_to scope.library written walk.layer walk.at walk.extension to (extension_at to given later)
 
   -- what is there behind it
-  abbrev after_segment : Walked → PointModel → Option ℤ → List Item → Wire → Walked
+  abbrev after_segment : PathState → PointModel → Option ℤ → List Item → Wire → PathState
   after_segment walk to given later wire = record { layer = walk.layer; at = to; extension = extension_at to given later; wires = walk.wires ++ wire ∷ [] }
 
   -- the same point again
-  point_same : (walk : Walked) (x y given : Option ℤ) (later : List Item) → is_same_spot walk.at (next_spot walk.at x y) ≡ true
+  point_same : (walk : PathState) (x y given : Option ℤ) (later : List Item) → is_same_spot walk.at (next_spot walk.at x y) ≡ true
       → wires_with scope written walk (ToPoint x y given ∷ later) ≡ wires_with scope written walk later
   unfolding wires_from
   point_same walk x y given later same = rw same refl
 
   -- another point
-  point_made : (walk : Walked) (x y given : Option ℤ) (later : List Item) (wire : Wire) → is_same_spot walk.at (next_spot walk.at x y) ≡ false
+  point_made : (walk : PathState) (x y given : Option ℤ) (later : List Item) (wire : Wire) → is_same_spot walk.at (next_spot walk.at x y) ≡ false
       → segment_then walk (next_spot walk.at x y) given later ≡ Some wire
       → wires_with scope written walk (ToPoint x y given ∷ later) ≡ wires_with scope written (after_segment walk (next_spot walk.at x y) given later wire) later
   unfolding wires_from
@@ -47,33 +42,33 @@ module _ (scope : NetScopeModel) (written : Option ℤ) where
       (extension_at (next_spot walk.at x y) given later) later))
 
   -- another point, to which no segment leads
-  point_stuck : (walk : Walked) (x y given : Option ℤ) (later : List Item) → is_same_spot walk.at (next_spot walk.at x y) ≡ false
+  point_stuck : (walk : PathState) (x y given : Option ℤ) (later : List Item) → is_same_spot walk.at (next_spot walk.at x y) ≡ false
       → segment_then walk (next_spot walk.at x y) given later ≡ None → wires_with scope written walk (ToPoint x y given ∷ later) ≡ None
   unfolding wires_from
   point_stuck walk x y given later apart none = rw (apart, none) refl
 
   -- the wires after an item, if it can be passed
-  abbrev Onwards : Walked → Item → List Item → Type 0
+  abbrev Onwards : PathState → Item → List Item → Type 0
   Onwards walk item later =
       wires_with scope written walk (item ∷ later) ≡ (walked_past scope written item later walk >>= λ next. wires_with scope written next later)
 
-  past_point : (walk : Walked) (x y given : Option ℤ) (later : List Item) (same : Bool) → is_same_spot walk.at (next_spot walk.at x y) ≡ same
+  past_point : (walk : PathState) (x y given : Option ℤ) (later : List Item) (same : Bool) → is_same_spot walk.at (next_spot walk.at x y) ≡ same
       → (said : Option Wire) → segment_then walk (next_spot walk.at x y) given later ≡ said → Onwards walk (ToPoint x y given) later
   unfolding walked_past walked_to
   past_point walk x y given later true same said is = point_same walk x y given later same ∙ rw same refl
   past_point walk x y given later false apart None is = point_stuck walk x y given later apart is ∙ rw (apart, is) refl
   past_point walk x y given later false apart (Some wire) is = point_made walk x y given later wire apart is ∙ rw (apart, is) refl
 
-  past_via : (walk : Walked) (via : ℕ) (later : List Item) (said : Option ℕ) → across scope via walk.layer ≡ said → Onwards walk (AtVia via) later
+  past_via : (walk : PathState) (via : ℕ) (later : List Item) (said : Option ℕ) → across scope via walk.layer ≡ said → Onwards walk (AtVia via) later
   unfolding wires_from walked_past
   past_via walk via later None is = rw is refl
   past_via walk via later (Some other) is = rw is (one_before walk.wires (ViaAt via walk.at) (wires_from scope written other walk.at walk.extension later))
 
-  past_rect : (walk : Walked) (rect : RectModel) (later : List Item) → Onwards walk (AtRect rect) later
+  past_rect : (walk : PathState) (rect : RectModel) (later : List Item) → Onwards walk (AtRect rect) later
   unfolding wires_from walked_past
   past_rect walk rect later = one_before walk.wires (Patch walk.layer walk.at rect) (wires_from scope written walk.layer walk.at walk.extension later)
 
-  past_item : (walk : Walked) (item : Item) (later : List Item) → Onwards walk item later
+  past_item : (walk : PathState) (item : Item) (later : List Item) → Onwards walk item later
   past_item walk (ToPoint x y given) later = past_point walk x y given later _ refl _ refl
   past_item walk (AtVia via) later = past_via walk via later _ refl
   past_item walk (AtRect rect) later = past_rect walk rect later
@@ -81,19 +76,19 @@ module _ (scope : NetScopeModel) (written : Option ℤ) where
 at_front : (items : List Item) (i : ℕ) (item : Item) → i < length items → item ≡ get_or items i item
     → drop i items ≡ item ∷ take (length items - (i + 1)) (drop (i + 1) items)
 at_front items i item less is =
-    drop_more items i item less ∙ ap (λ y. y ∷ drop (i + 1) items) (sym is) ∙ ap (λ rest. item ∷ rest) (sym (the_rest items (i + 1)))
+    drop_more items i item less ∙ ap (λ y. y ∷ drop (i + 1) items) (sym is) ∙ ap (λ rest. item ∷ rest) (sym (take_rest items (i + 1)))
 
 -- The path is followed past one more item.
-pub walk_on : (scope : NetScopeModel) (written : Option ℤ) (walk next : Walked) (items : List Item) (i : ℕ) (item : Item) → i < length items
+pub walk_on : (scope : NetScopeModel) (written : Option ℤ) (walk next : PathState) (items : List Item) (i : ℕ) (item : Item) → i < length items
     → item ≡ get_or items i item → walked_past scope written item (take (length items - (i + 1)) (drop (i + 1) items)) walk ≡ Some next
     → wires_with scope written walk (drop i items) ≡ wires_with scope written next (drop (i + 1) items)
 walk_on scope written walk next items i item less is said =
     let later = take (length items - (i + 1)) (drop (i + 1) items) in
     ap (wires_with scope written walk) (at_front items i item less is) ∙ past_item scope written walk item later
-    ∙ rw said (ap (wires_with scope written next) (the_rest items (i + 1)))
+    ∙ rw said (ap (wires_with scope written next) (take_rest items (i + 1)))
 
 -- The item can't be passed.
-pub walk_fails : (scope : NetScopeModel) (written : Option ℤ) (walk : Walked) (items : List Item) (i : ℕ) (item : Item) → i < length items
+pub walk_fails : (scope : NetScopeModel) (written : Option ℤ) (walk : PathState) (items : List Item) (i : ℕ) (item : Item) → i < length items
     → item ≡ get_or items i item → walked_past scope written item (take (length items - (i + 1)) (drop (i + 1) items)) walk ≡ None
     → wires_with scope written walk (drop i items) ≡ None
 walk_fails scope written walk items i item less is said =
@@ -101,7 +96,7 @@ walk_fails scope written walk items i item less is said =
     ap (wires_with scope written walk) (at_front items i item less is) ∙ past_item scope written walk item later ∙ rw said refl
 
 -- No item is left.
-pub walk_ends : (scope : NetScopeModel) (written : Option ℤ) (walk : Walked) (items : List Item) (i : ℕ) → length items ≤ i
+pub walk_ends : (scope : NetScopeModel) (written : Option ℤ) (walk : PathState) (items : List Item) (i : ℕ) → length items ≤ i
     → wires_with scope written walk (drop i items) ≡ Some walk.wires
 unfolding wires_from
 walk_ends scope written walk items i past = rw (drop_all i items past) (ap Some (append-nil walk.wires))

@@ -210,9 +210,9 @@ struct Walk<A: Allocator> {
 }
 
 impl<A: Allocator> Model for Walk<A> {
-    ghost use Rattle.leg_design_nets.specs.Steps.Walk.{Walked};
+    ghost use Rattle.leg_design_nets.specs.Steps.Walk.{PathState};
 
-    ghost Value = { Walked };
+    ghost Value = { PathState };
 
     ghost view = { λ w. record { layer = w.layer; at = w.at; extension = w.extension; wires = w.wires.items } };
 }

@@ -11,7 +11,7 @@ use Rattle.leg_design_records.specs.MoreWires.{each_with, with_more_wires}
 use Rattle.leg_design_records.specs.Records.{DesignModel, NetModel, terminal_count, wire_count}
 use Rattle.leg_design_records.specs.WellFormedNets.{IsTerminal, IsWire, IsNet, HasNets}
 use Rattle.leg_design_records.specs.WellFormed.{IsWellFormed}
-use Rattle.leg_design_records.proofs.NetsKept.{Keeps, net_kept, AreAlike, one_net_kept, in_some_net_kept}
+use Rattle.leg_design_records.proofs.NetReferences.{Keeps, net_kept, AreAlike, one_net_kept, in_some_net_kept}
 use Rattle.leg_design_records.proofs.NetWires.{wired}
 use Rattle.leg_design_records.proofs.EachWith.{each_with_length, each_with_map}
 

@@ -3,7 +3,7 @@ mod OneOther
 mod Moves
 mod MovedNets
 -- A net that gets wires
-mod NetsKept
+mod NetReferences
 mod NetWires
 mod AllNetWires
 -- What the proofs of other crates cite

@@ -12,7 +12,7 @@ use Rattle.leg_design_records.specs.WellFormedNets.{IsTerminal, IsNet, HasNets}
 use Rattle.leg_design_records.specs.WellFormed.{IsWellFormed}
 use Rattle.leg_design_records.proofs.OneOther.{IsPlacedOn}
 use Rattle.leg_design_records.proofs.Moves.{moved, with_moved, design_moved, components_stay}
-use Rattle.leg_design_records.proofs.NetsKept.{Keeps, net_kept}
+use Rattle.leg_design_records.proofs.NetReferences.{Keeps, net_kept}
 
 -- at this number there is a component of that master
 pub record HasMaster (components : List Component) (k master : ℕ) : Type 0 where

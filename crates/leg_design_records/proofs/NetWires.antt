@@ -11,7 +11,7 @@ use Rattle.leg_design_records.specs.Records.{DesignModel, NetModel, net_names, t
 use Rattle.leg_design_records.specs.WellFormedNets.{IsTerminal, IsWire, IsNet, AreNets, HasNets}
 use Rattle.leg_design_records.specs.WellFormed.{IsWellFormed}
 use Rattle.leg_design_records.proofs.OneOther.{IsPlacedOn, same_map, stands_before}
-use Rattle.leg_design_records.proofs.NetsKept.{Keeps, net_kept, AreAlike, one_net_kept, in_some_net_kept}
+use Rattle.leg_design_records.proofs.NetReferences.{Keeps, net_kept, AreAlike, one_net_kept, in_some_net_kept}
 
 -- the net, with these wires after its own
 abbrev pub wired : NetModel → List Wire → NetModel

@@ -9,7 +9,7 @@ use Rattle.leg_design_records.specs.MoreWires.{each_with, with_more_wires}
 use Rattle.leg_design_records.specs.Records.{NetModel, DesignModel, wire_count}
 use Rattle.leg_rules.specs.Metal.Flat.{FlatModel, IsFlatOf}
 use Rattle.leg_rules.specs.Joins.Violations.{IsOpenNet}
-use Rattle.leg_route_laws.specs.Finished.{finished}
+use Rattle.leg_route_laws.specs.FinishedDesign.{finished}
 use Rattle.leg_rules.specs.Finish.Wires.{AddsToOpenNets, added_wires, wire_length, is_via, HaveTotals}
 
 pub sum_added : (f : Wire → ℕ) (nets : List NetModel) (lists : List (List Wire)) → length lists ≡ length nets

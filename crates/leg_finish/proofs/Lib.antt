@@ -2,7 +2,7 @@ mod OpenNets
 mod AddedWires
 mod WiresByNet
 mod WithWires
-mod NetsLeft
+mod RemainingNets
 mod Judgement
 mod GroupSlots
 mod GroupNodes

@@ -1,6 +1,5 @@
 -- The design that got the wires that were laid out and judged.
 use Rattle.std.proofs.Common.{◌≡◌, ◌↔◌, ◌+◌, ◌≤◌, ℕ, List, [], ◌∷◌, false, All, length, map, sum_by, inl, inr, refl, arith}
-use Rattle.std.proofs.lemmas.List.Elements.{All-nil, All-cons, All-head, All-tail}
 use Rattle.std.proofs.lemmas.List.Sums.{sum_by-cons}
 use Rattle.leg_lib_records.specs.Sound.{IsSound}
 use Rattle.leg_rules.specs.Placement.Violations.{IsPlacementViolation}
@@ -17,7 +16,7 @@ use Rattle.leg_rules.specs.Joins.Violations.{IsOpenNet}
 use Rattle.leg_rules.specs.Legal.{IsLegal}
 use Rattle.leg_rules.specs.Violations.{IsViolationIn, IsViolation}
 use Rattle.leg_route_laws.specs.CleanWire.{HasNoSpacingFault}
-use Rattle.leg_route_laws.specs.Finished.{finished, AreByNet, IsFinishedFrom}
+use Rattle.leg_route_laws.specs.FinishedDesign.{finished, AreByNet, IsFinishedFrom}
 use Rattle.leg_route_laws.specs.Growth.{AddedWire, Grows}
 use Rattle.leg_finish.specs.Steps.Judgement.{AreFinishing}
 use Rattle.leg_finish.proofs.AddedWires.{wires_more}
@@ -91,8 +90,3 @@ sum_mapped (x ∷ xs) g f =
     let then = sum_by-cons (λ x. f (g x)) x xs in
     let rest = sum_mapped xs g f in
     omega (arith, first, then, rest)
-
-pub all_before : {X Y : Type 0} (xs : List X) (g : X → Y) (P : Y → Type 0) → All P (map g xs) → All (λ x. P (g x)) xs
-all_before [] g P all = All-nil (λ x. P (g x))
-all_before (x ∷ xs) g P all =
-    All-cons (λ x. P (g x)) x xs (All-head P (g x) (map g xs) all) (all_before xs g P (All-tail P (g x) (map g xs) all))

@@ -1,2 +1,2 @@
--- Elements of lists
-mod Elements
+-- Elements of lists, which the proofs of other crates cite too
+pub mod Elements

@@ -21,7 +21,7 @@ mod MetalWalks
 mod MetalOwners
 mod MetalLines
 mod MetalSizes
-mod MetalKept
+mod Registers
 mod MetalWhole
 -- Each piece of metal is a rectangle
 mod OutlineRects
@@ -45,7 +45,7 @@ mod Elements
 -- What the proofs of other crates cite
 pub mod OneFlat
 pub mod LastPiece
-pub mod MetalKnown
+pub mod DrawnMetal
 pub mod Parts
 -- A net that gets a wire
 mod OneMoreWire

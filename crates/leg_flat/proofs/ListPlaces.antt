@@ -3,7 +3,7 @@ use Rattle.std.proofs.Common.{◌≡◌, ℕ, zero, suc, ◌+◌, ◌⊎◌, inl
 use Rattle.std.proofs.lemmas.List.Elements.{Contains-append_left, Contains-append_right, Contains-append_cases}
 use Rattle.std.proofs.lemmas.Option.{slice_get_within}
 use Rattle.leg_lemmas.proofs.Places.{place_of_contained}
-use Rattle.leg_lemmas.proofs.Contained.{Contains-nil}
+use Rattle.leg_lemmas.proofs.Contents.{Contains-nil}
 use Rattle.leg_flat.proofs.MoreMetal.{walk}
 
 -- an element of what a list is mapped to comes from one

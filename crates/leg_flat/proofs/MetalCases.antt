@@ -2,7 +2,7 @@
 use Rattle.std.proofs.Common.{◌≡◌, ℕ, ◌+◌, ◌⊎◌, inl, inr, List, length, map, slice_get, Contains, Option, None, Some, refl, sym, ap, ◌∙◌, subst, zero-add, add-zero, arith}
 use Rattle.std.proofs.lemmas.List.Elements.{Contains-append_cases}
 use Rattle.leg_lemmas.proofs.Places.{contains_at}
-use Rattle.leg_lemmas.proofs.Contained.{Contains-nil}
+use Rattle.leg_lemmas.proofs.Contents.{Contains-nil}
 use Rattle.leg_geom.specs.declared.place.Place.{Place}
 use Rattle.leg_lib_records.specs.Records as library
 use Rattle.leg_design_records.specs.declared.records.Component.{Component}

@@ -18,7 +18,7 @@ use Rattle.leg_design_records.specs.WellFormedNets.{IsWireWidth, IsExtension, Is
 use Rattle.leg_lib_records.specs.Sound.{HasWidth, IsSoundLayer, IsSound}
 use Rattle.leg_flat.specs.Steps.Bounds.{IsMetalReach, IsWidthWithin}
 use Rattle.leg_flat.specs.Steps.AddedMetal.{IsWireWithin}
-use Rattle.leg_flat.proofs.MetalKnown.{drawn_of_area}
+use Rattle.leg_flat.proofs.DrawnMetal.{drawn_of_area}
 
 straight_line : (p q : PointModel) → IsTrue (is_straight p q) → (p.x ≡ q.x) ⊎ (p.y ≡ q.y)
 straight_line p q is = by (int_eq p.x q.x) refl where

@@ -23,7 +23,7 @@ use Rattle.leg_flat.specs.Steps.AddedMetal.{AreDrawnWithin, IsPlaceWithin}
 use Rattle.leg_flat.proofs.MoreMetal.{walk}
 use Rattle.leg_flat.proofs.Parts.{all_parts}
 use Rattle.leg_flat.proofs.MetalWalks.{pin_metal, pins_walk, one_component, components_walk, design_pin_metal, design_pins_walk, one_blockage, blockages_walk, wire_metal, wires_walk, net_metal, nets_walk, one_special, specials_walk, port_drawn, ports_drawn_walk}
-use Rattle.leg_flat.proofs.MetalKnown.{master_drawn, via_drawn, placed_within, port_within, drawn_of_area}
+use Rattle.leg_flat.proofs.DrawnMetal.{master_drawn, via_drawn, placed_within, port_within, drawn_of_area}
 use Rattle.leg_flat.proofs.MetalLines.{wire_within}
 use Rattle.leg_flat.proofs.OutlineRects.{HasRect, ArePlacedImages, IsBox, zero_number, line_has, drawn_has, shifted_has, rectangle_has}
 

@@ -5,7 +5,7 @@ use Rattle.std.proofs.lemmas.List.{append-nil, length-append}
 use Rattle.std.proofs.lemmas.List.Concat.{flat_map-append}
 use Rattle.std.proofs.lemmas.List.Elements.{Contains-append_left, Contains-append_right, Contains-append_cases, All-nil, All-append}
 use Rattle.std.proofs.lemmas.Option.{none-some, same_Some}
-use Rattle.leg_lemmas.proofs.Contained.{Contains-nil}
+use Rattle.leg_lemmas.proofs.Contents.{Contains-nil}
 
 abbrev pub whole : {X : Type 0} → List (List X) → List X
 whole parts = flat_map (λ part. part) parts

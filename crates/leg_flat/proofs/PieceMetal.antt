@@ -2,7 +2,7 @@
 use Rattle.std.proofs.Common.{◌≡◌, ℕ, ◌+◌, ◌⊎◌, inl, inr, List, ◌++◌, length, map, slice_get, Contains, Option, None, Some, refl, sym, ap, ◌∙◌, subst, arith}
 use Rattle.std.proofs.lemmas.List.Elements.{Contains-append_left, Contains-append_right}
 use Rattle.leg_lemmas.proofs.Places.{contains_at, InSecond}
-use Rattle.leg_lemmas.proofs.Contained.{Contains-map}
+use Rattle.leg_lemmas.proofs.Contents.{Contains-map}
 use Rattle.leg_design_records.specs.declared.records.Terminal.{Terminal}
 use Rattle.leg_design_records.specs.declared.records.Terminal.TheVariants.{Comp, Pin}
 use Rattle.leg_design_records.specs.declared.records.Wire as records

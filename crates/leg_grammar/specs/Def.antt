@@ -21,6 +21,6 @@ pub mod Path
 pub mod Wiring
 pub mod Net
 pub mod LonePins
-pub mod Skipped
+pub mod SkippedForms
 pub mod Parts
 pub mod Form

@@ -1,7 +1,7 @@
 -- What the places that are chosen make of a design, and the causes of refusal.
-use Rattle.std.proofs.Common.{◌≡◌, List, [], ◌∷◌, length, refl, inl, inr, arith}
+use Rattle.std.proofs.Common.{◌≡◌, List, [], refl, inl, inr}
 use Rattle.std.proofs.lemmas.List.Elements.{All-nil}
-use Rattle.leg_lemmas.proofs.Contained.{Contains-nil}
+use Rattle.leg_lemmas.proofs.Contents.{Contains-nil}
 use Rattle.leg_lib_records.specs.Sound.{IsSound}
 use Rattle.leg_design_records.specs.Records.{DesignModel}
 use Rattle.leg_design_records.specs.declared.fault.Fault.{Fault}
@@ -20,11 +20,6 @@ use Rattle.leg_legal.specs.Steps.Boxes.{AreAllTaken, IsTakingFault}
 use Rattle.leg_legal.specs.Steps.Choices.{AreRun, IsRunFault, AreChosen}
 use Rattle.leg_legal.proofs.OnRow.{HasSoundRows}
 use Rattle.leg_legal.proofs.TheRun.{run_legal, run_same, legal_same}
-
--- a list without elements
-pub none_there : {X : Type 0} (xs : List X) → length xs ≡ 0 → xs ≡ []
-none_there [] is = refl
-none_there (x ∷ xs) is = absurd (omega (arith, is))
 
 module _ (design : DesignModel) where
   -- no violation concerns only components that stay

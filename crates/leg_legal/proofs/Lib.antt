@@ -3,12 +3,12 @@ mod Elements
 mod OnRow
 -- The theorem of the run
 mod OneMove
-mod AmongSettled
+mod SettledPlaces
 mod RunSoFar
 mod TheOrder
 mod TheRun
 -- The order of taking
-mod TurnsSorted
+mod TurnKeyOrder
 -- Causes of refusal
 mod StayingFaults
 mod SiteMarks

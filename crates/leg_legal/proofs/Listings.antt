@@ -3,8 +3,8 @@ use Rattle.std.proofs.Common.{◌≡◌, ◌⊎◌, ℕ, zero, suc, ◌<◌, Lis
 use Rattle.std.proofs.lemmas.Bool.{cases_lt}
 use Rattle.std.proofs.lemmas.List.Elements.{All-append, All-contains, All-cons, All-nil, All-weaker, Contains-append_left, Contains-append_right}
 use Rattle.std.proofs.lemmas.List.Kept.{AllPairs-cons}
-use Rattle.leg_lemmas.proofs.Contained.{Contains-here, Contains-there, Contains-cons_cases, All-from_contains}
-use Rattle.leg_lemmas.proofs.Rising.{AllPairs-nil, AllPairs-head, AllPairs-tail, AllPairs-append_by}
+use Rattle.leg_lemmas.proofs.Contents.{Contains-here, Contains-there, Contains-cons_cases, All-from_contains}
+use Rattle.leg_lemmas.proofs.RisingLists.{AllPairs-nil, AllPairs-head, AllPairs-tail, AllPairs-append_by}
 use Rattle.leg_legal.proofs.Decisions.{HoldsOrNot}
 
 -- it is of a kind of a number below the end

@@ -54,8 +54,13 @@ module _ (design : DesignModel) (sound : HasSoundRows design) (c : ℕ) (positio
     there = stands.is_site;
     fits = fits;
     sites =
-        macro_on_sites stands.row stands.site.size stands.master.size position.first stands.many site_area
-        (area_of_sites stands.site.size stands.master.size stands.many site_area stands.some stands.wide stands.high)
-        stands.wide stands.high stands.within place stands.at
+        macro_on_sites stands.row stands.site.size stands.master.size position.first stands.many
+        (record {
+          site_area = site_area;
+          area = area_of_sites stands.site.size stands.master.size stands.many site_area stands.some stands.wide stands.high;
+          wide = stands.wide;
+          high = stands.high;
+        })
+        stands.within place stands.at
         (fitting_upright stands.row.orient stands.master.y_symmetric place.orient is_row.upright fits);
   }

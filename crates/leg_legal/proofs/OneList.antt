@@ -1,7 +1,7 @@
 -- Two lists of the same violations are equal.
 use Rattle.std.proofs.Common.{◌≡◌, List, refl, arith}
 use Rattle.std.proofs.lemmas.List.Elements.{All-contains}
-use Rattle.leg_lemmas.proofs.Rising.{same_rising}
+use Rattle.leg_lemmas.proofs.RisingLists.{same_rising}
 use Rattle.leg_design_records.specs.declared.fault.Fault.{Fault}
 use Rattle.leg_design_records.specs.Violation.{kind_number, numbers_of, ComesBefore, IsListOf}
 

@@ -1,6 +1,7 @@
 -- Components that take their places in one order come to one design.
 use Rattle.std.proofs.Common.{◌≡◌, ◌⊎◌, ℕ, suc, ◌+◌, pos, ◌+ℤ◌, ◌*ℤ◌, Bool, Option, None, Some, List, [], ◌∷◌, ◌++◌, length, slice_get, inl, inr, refl, sym, ap, ◌∙◌, arith, length-append}
 use Rattle.std.specs.Cmp.{both_ways}
+use Rattle.std.proofs.lemmas.List.{same_from_push}
 use Rattle.std.proofs.lemmas.Option.{same_Some}
 use Rattle.leg_geom.specs.declared.orient.Orient.{Orient}
 use Rattle.leg_geom.specs.declared.place.Place.{Place}
@@ -93,15 +94,6 @@ module _ {X : Type 0} where
       let part : length whole ≡ length front + suc (length behind.rest) = ap length behind.is ∙ length-append front (x ∷ behind.rest) in
       omega arith
 
-  -- the last elements of equal lists, and what stands in front of them
-  pub same_ends : (xs ys : List X) (x y : X) → xs ++ x ∷ [] ≡ ys ++ y ∷ [] → (xs ≡ ys) × (x ≡ y)
-  same_ends xs ys x y same =
-      elim (meets xs ys x y [] [] same) [
-        | inl both ↦ both
-        | inr (inl early) ↦ absurd (not_behind_last xs ys x y [] same early)
-        | inr (inr late) ↦ absurd (not_behind_last ys xs y x [] (sym same) late)
-      ]
-
   pub no_end : (xs : List X) (x : X) (rest : List X) → [] ≡ xs ++ x ∷ rest → ⊥
   no_end xs x rest empty =
       let long : length (xs ++ x ∷ rest) ≡ length xs + suc (length rest) = length-append xs (x ∷ rest) in
@@ -127,7 +119,7 @@ one_run before _ _ _ _ none (one {done = ys} {c = d} also is best) same = absurd
 one_run before _ _ _ _ (one {done = xs} {c = c} run there takes) none same = absurd (no_end xs c [] (sym same))
 one_run before _ _ _ _ (one {done = xs} {now = now} {c = c} {component = x} {place = p} run there takes)
     (one {done = ys} {now = other} {c = d} {component = y} {place = q} also is best) same =
-    let ends = same_ends xs ys c d same in
+    let ends = same_from_push xs ys c d same in
     let designs : now ≡ other = one_run before xs ys now other run also ends.0 in
     one_step now other xs ys c d x y p q there is takes best (sym designs) (sym ends.0) (sym ends.1)
 

@@ -6,7 +6,7 @@ use Rattle.std.proofs.lemmas.Int.{ints, by_lt_z}
 use Rattle.std.proofs.lemmas.List.Elements.{All-head, All-contains, Contains-append_right}
 use Rattle.std.proofs.lemmas.Option.{slice_get_within}
 use Rattle.leg_lemmas.proofs.Places.{all_at}
-use Rattle.leg_lemmas.proofs.Contained.{Contains-nil, Contains-here}
+use Rattle.leg_lemmas.proofs.Contents.{Contains-nil, Contains-here}
 use Rattle.leg_lib_records.specs.Measure.{IsExtent, HasArea}
 use Rattle.leg_lib_records.specs.Records.{MasterModel}
 use Rattle.leg_lib_records.specs.Sound.{IsSound}

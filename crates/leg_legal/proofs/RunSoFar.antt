@@ -4,7 +4,7 @@ use Rattle.std.proofs.lemmas.Bool.{cases_eq}
 use Rattle.std.proofs.lemmas.List.{length-set}
 use Rattle.std.proofs.lemmas.List.Elements.{Contains-push, Contains-push_cases, Contains-append_left, All-contains}
 use Rattle.std.proofs.lemmas.Option.{same_Some}
-use Rattle.leg_lemmas.proofs.Contained.{Contains-nil}
+use Rattle.leg_lemmas.proofs.Contents.{Contains-nil}
 use Rattle.leg_geom.specs.declared.place.Place.{Place}
 use Rattle.leg_design_records.specs.Records.{DesignModel}
 use Rattle.leg_design_records.specs.declared.fault.Fault.{Fault}
@@ -18,7 +18,7 @@ use Rattle.leg_rules.specs.Legalise.Refusals.{ConcernsStaying, NoneStaying}
 use Rattle.leg_legal.proofs.Elements.{pairs_before, pairs_with_last, all_before}
 use Rattle.leg_legal.proofs.OneMove.{here, elsewhere, movable_after, movable_before}
 use Rattle.leg_legal.proofs.OnRow.{HasSoundRows}
-use Rattle.leg_legal.proofs.AmongSettled.{ConcernsSettled, NoneSettled, settled_more}
+use Rattle.leg_legal.proofs.SettledPlaces.{ConcernsSettled, NoneSettled, settled_more}
 
 -- movable components, no two alike
 pub record AreMovable (design : DesignModel) (done : List ℕ) : Type 0 where

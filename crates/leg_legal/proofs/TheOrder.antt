@@ -9,7 +9,7 @@ use Rattle.leg_rules.specs.Legalise.Start.{start_of}
 use Rattle.leg_rules.specs.Legalise.Turns.{Turn, IsEarlier, HasTurn, IsTakenBefore, IsOrderOfTaking}
 use Rattle.leg_legal.proofs.RunSoFar.{AreMovable}
 use Rattle.std.proofs.lemmas.List.Elements.{All-contains}
-use Rattle.leg_lemmas.proofs.Rising.{same_rising}
+use Rattle.leg_lemmas.proofs.RisingLists.{same_rising}
 
 -- a component has one turn
 one_turn : (design : DesignModel) (c : ℕ) (a b : Turn) → HasTurn design c a → HasTurn design c b → a ≡ b

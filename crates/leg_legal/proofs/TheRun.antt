@@ -22,7 +22,7 @@ use Rattle.leg_rules.specs.Legalise.SameButForPlaces.{IsPlacedAnew, IsSameButFor
 use Rattle.leg_rules.specs.Legalise.Refusals.{NoneStaying}
 use Rattle.leg_design_records.proofs.MovableOrNot.{movable_or_not}
 use Rattle.leg_legal.proofs.OnRow.{HasSoundRows}
-use Rattle.leg_legal.proofs.AmongSettled.{ConcernsSettled}
+use Rattle.leg_legal.proofs.SettledPlaces.{ConcernsSettled}
 use Rattle.leg_legal.proofs.RunSoFar.{IsSoFar, so_far, none_settled}
 use Rattle.leg_legal.proofs.TheOrder.{order_movable}
 

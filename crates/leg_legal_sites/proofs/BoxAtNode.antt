@@ -28,7 +28,7 @@ use Rattle.leg_legal_sites.specs.Steps.FreeRows.{LosesMet, AreTakenBeneath}
 use Rattle.leg_legal_sites.specs.Steps.SharedLists.{own_list, AreShared, LosesShared, IsMetThroughout}
 use Rattle.leg_legal_sites.proofs.RowBounds.{within_die}
 use Rattle.leg_legal_sites.proofs.RowTree.{leaf_alone, nodes_set, nodes_weaker}
-use Rattle.leg_legal_sites.proofs.RowsTaken.{same_row, inside_still, fit_still}
+use Rattle.leg_legal_sites.proofs.TakenRows.{same_row, inside_still, fit_still}
 use Rattle.leg_legal_sites.proofs.RowPlaces.{some_is, key_there, place_of_key, own_row, alike_rows}
 use Rattle.leg_legal_sites.proofs.SharedLists.{IsNotBeneath, decide_beneath, same_elsewhere, same_above, row_lists_long, row_list_there}
 

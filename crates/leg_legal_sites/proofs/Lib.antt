@@ -11,7 +11,7 @@ mod CutPoints
 mod ListSplit
 mod TakenSites
 -- Rows
-mod KeysSorted
+mod KeyOrder
 mod ListPlaces
 mod Parts
 mod PartPlaces
@@ -32,7 +32,7 @@ mod SiteSquares
 pub mod BestSoFar
 pub mod MetSites
 pub mod FreeLists
-mod RowsTaken
+mod TakenRows
 mod OnlyRow
 mod RowsInside
 mod LeafLists

@@ -79,17 +79,26 @@ alike_left order node alike a b leaf_a leaf_b = alike a b (beneath_left order no
 pub alike_right : (order : List RowKey) (node : ℕ) → HaveAlikeLists order node → HaveAlikeLists order (2 * node + 1)
 alike_right order node alike a b leaf_a leaf_b = alike a b (beneath_right order node a leaf_a) (beneath_right order node b leaf_b)
 
+-- a row beneath each of the two nodes below one, both of one site, which begin at one x
+pub record HasAlikeRows (order : List RowKey) (node : ℕ) : Type 0 where
+  pub a : RowKey
+  pub b : RowKey
+  pub on_left : IsLeafBeneath order (2 * node) a
+  pub on_right : IsLeafBeneath order (2 * node + 1) b
+  pub x : a.x ≡ b.x
+  pub site : a.site ≡ b.site
+
 -- the rows beneath two nodes are alike, where one beneath each is like the other
-pub alike_both : (order : List RowKey) (node : ℕ) (a b : RowKey) → node < length order → HaveAlikeLists order (2 * node) → HaveAlikeLists order (2 * node + 1)
-    → IsLeafBeneath order (2 * node) a → IsLeafBeneath order (2 * node + 1) b → a.x ≡ b.x → a.site ≡ b.site → HaveAlikeLists order node
-alike_both order node a b inner left right leaf_a leaf_b x site p q leaf_p leaf_q =
+pub alike_both : (order : List RowKey) (node : ℕ) → node < length order → HaveAlikeLists order (2 * node) → HaveAlikeLists order (2 * node + 1)
+    → HasAlikeRows order node → HaveAlikeLists order node
+alike_both order node inner left right rows p q leaf_p leaf_q =
     let of_p = like p leaf_p in
     let of_q = like q leaf_q in
     (of_p.0 ∙ sym of_q.0, of_p.1 ∙ sym of_q.1) where
-      like : (p : RowKey) → IsLeafBeneath order node p → (p.x ≡ a.x) × (p.site ≡ a.site)
+      like : (p : RowKey) → IsLeafBeneath order node p → (p.x ≡ rows.a.x) × (p.site ≡ rows.a.site)
       like p leaf = elim (beneath_either order node p inner leaf) [
-        | inl lower ↦ left p a lower leaf_a
-        | inr lower ↦ let same = right p b lower leaf_b in (same.0 ∙ sym x, same.1 ∙ sym site)
+        | inl lower ↦ left p rows.a lower rows.on_left
+        | inr lower ↦ let same = right p rows.b lower rows.on_right in (same.0 ∙ sym rows.x, same.1 ∙ sym rows.site)
       ]
 
 apart_left : (node : ℕ) → 1 ≤ node → 2 * node ≢ node

@@ -55,6 +55,13 @@ upright_box size at E area upright = absurd (false≢true upright)
 upright_box size at FW area upright = absurd (false≢true upright)
 upright_box size at FE area upright = absurd (false≢true upright)
 
+-- a macro, which has area as a site does, is as high as a site and as wide as so many of them
+pub record FillsSites (site size : ExtentModel) (many : ℕ) : Type 0 where
+  pub site_area : HasArea site
+  pub area : HasArea size
+  pub wide : size.width ≡ pos many *ℤ site.width
+  pub high : size.height ≡ site.height
+
 -- Such a macro has exactly the box of the sites on which it is put.
 module _ (row : Row) (site size : ExtentModel) (first many : ℕ) where
   -- the right edge of the macro is that of its last site
@@ -68,22 +75,20 @@ module _ (row : Row) (site size : ExtentModel) (first many : ℕ) where
       let end = edge_is site.width n width (first + many) in
       omega (arith, ints, wide, at, long, end, add-mul first many n)
 
-  pub macro_box : HasArea site → HasArea size → size.width ≡ pos many *ℤ site.width → size.height ≡ site.height → (place : Place)
-      → place.at ≡ record { x = row.at.x +ℤ pos first *ℤ site.width; y = row.at.y } → IsTrue (is_upright place.orient)
-      → placed_box size place ≡ sites_box row site first many
-  macro_box area has_area wide high place at upright =
+  pub macro_box : FillsSites site size many → (place : Place) → place.at ≡ record { x = row.at.x +ℤ pos first *ℤ site.width; y = row.at.y }
+      → IsTrue (is_upright place.orient) → placed_box size place ≡ sites_box row site first many
+  macro_box fills place at upright =
       ap (λ (p : PointModel). placed_box size (record { at = p; orient = place.orient })) at
-      ∙ upright_box size (record { x = row.at.x +ℤ pos first *ℤ site.width; y = row.at.y }) place.orient has_area upright
+      ∙ upright_box size (record { x = row.at.x +ℤ pos first *ℤ site.width; y = row.at.y }) place.orient fills.area upright
       ∙ same_box
-      (λ i. record { low = row.at.x +ℤ pos first *ℤ site.width; high = right_edge area wide i })
-      (λ i. record { low = row.at.y; high = row.at.y +ℤ high i })
+      (λ i. record { low = row.at.x +ℤ pos first *ℤ site.width; high = right_edge fills.site_area fills.wide i })
+      (λ i. record { low = row.at.y; high = row.at.y +ℤ fills.high i })
 
   -- so it stands on sites of the row
-  pub macro_on_sites : HasArea site → HasArea size → size.width ≡ pos many *ℤ site.width → size.height ≡ site.height → pos (first + many) ≤ℤ row.count
-      → (place : Place) → place.at ≡ record { x = row.at.x +ℤ pos first *ℤ site.width; y = row.at.y } → IsTrue (is_upright place.orient)
+  pub macro_on_sites : FillsSites site size many → pos (first + many) ≤ℤ row.count → (place : Place)
+      → place.at ≡ record { x = row.at.x +ℤ pos first *ℤ site.width; y = row.at.y } → IsTrue (is_upright place.orient)
       → IsOnSites row site (placed_box size place)
-  macro_on_sites area has_area wide high within place at upright =
-      rw (macro_box area has_area wide high place at upright) (on_sites row site area first many within)
+  macro_on_sites fills within place at upright = rw (macro_box fills place at upright) (on_sites row site fills.site_area first many within)
 
 -- an orientation that isn't turned keeps points of one height at one height, and one that is turned doesn't
 module _ (w h : ℤ) where

@@ -28,5 +28,5 @@ module _ (row : Row) (site size : ExtentModel) (many : ℕ) (area : HasArea site
     pub free_just_where_macro_clear : (first : ℕ) (place : Place) → place.at ≡ record { x = row.at.x +ℤ pos first *ℤ site.width; y = row.at.y }
         → IsTrue (is_upright place.orient) → AreFreeSites free many first ↔ ((pos (first + many) ≤ℤ row.count) × IsClear die Taken (placed_box size place))
     free_just_where_macro_clear first place at upright =
-        rw (macro_box row site size first many area has_area wide high place at upright)
+        rw (macro_box row site size first many (record { site_area = area; area = has_area; wide = wide; high = high }) place at upright)
         (free_just_where_clear row site area die Taken free known many first some_sites)

@@ -20,7 +20,8 @@ use Rattle.leg_legal_sites.specs.Steps.OnlyRow.{DoRise, AreAllSoHigh, IsOnlyMet}
 use Rattle.leg_legal_sites.proofs.MetSites.{unmet_along_y}
 use Rattle.leg_legal_sites.proofs.RowPlaces.{key_there}
 use Rattle.leg_legal_sites.proofs.RowsAround.{rising_at}
-use Rattle.leg_legal_sites.proofs.RowsTaken.{rows_joined}
+use Rattle.leg_legal_sites.proofs.RowTree.{cover_below}
+use Rattle.leg_legal_sites.proofs.TakenRows.{rows_joined}
 
 abbrev none : Bounds
 none = record { least_row = 0; least_site = 0; most_site = 0; low = pos 0; high = pos 0; top = pos 0; left = pos 0; right = pos 0; corner = pos 0; longest = 0 }
@@ -45,10 +46,8 @@ joined_higher order old nodes above outer some left right so_far =
       within = omega (arith, within);
       count = length-set nodes above outer ∙ count;
       rows = λ design lists rows.
-          rows_joined design (record { x1 = pos 0; y1 = pos 0; x2 = pos 0; y2 = pos 0 }) order lists nodes above outer (get_or nodes (2 * above) none)
-          (get_or nodes (2 * above + 1) none) some within
-          (slice_get-get_or nodes (2 * above) none (omega (arith, within, count)))
-          (slice_get-get_or nodes (2 * above + 1) none (omega (arith, within, count))) left right (so_far.rows design lists rows);
+          rows_joined design order lists nodes above outer some within
+          (cover_below nodes above outer none (omega (arith, within, count)) left right) (so_far.rows design lists rows);
     }
 
 -- keys between two of one site are of that site

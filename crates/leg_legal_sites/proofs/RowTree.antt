@@ -59,6 +59,26 @@ beneath_first (suc most) q upto some =
           record { levels = suc above.levels; beneath = one_lower above.levels 1 h.p q above.beneath h.is }
     ]
 
+-- bounds that cover those of the two nodes below one
+pub record DoCoverBelow (nodes : List Bounds) (node : ℕ) (outer : Bounds) : Type 0 where
+  pub left : Bounds
+  pub right : Bounds
+  pub at_left : slice_get nodes (2 * node) ≡ Some left
+  pub at_right : slice_get nodes (2 * node + 1) ≡ Some right
+  pub over_left : DoCover outer left
+  pub over_right : DoCover outer right
+
+pub cover_below : (nodes : List Bounds) (node : ℕ) (outer none : Bounds) → 2 * node + 1 < length nodes → DoCover outer (get_or nodes (2 * node) none)
+    → DoCover outer (get_or nodes (2 * node + 1) none) → DoCoverBelow nodes node outer
+cover_below nodes node outer none within over_left over_right = record {
+  left = get_or nodes (2 * node) none;
+  right = get_or nodes (2 * node + 1) none;
+  at_left = slice_get-get_or nodes (2 * node) none (omega (arith, within));
+  at_right = slice_get-get_or nodes (2 * node + 1) none within;
+  over_left = over_left;
+  over_right = over_right;
+}
+
 module _ (order : List RowKey) where
   -- all leaves do
   pub leaf_beneath_first : (place : ℕ) (key : RowKey) → slice_get order place ≡ Some key → IsLeafBeneath order 1 key
@@ -116,13 +136,12 @@ module _ (order : List RowKey) where
 
     module _ (covered : (outer inner : Bounds) (number : ℕ) → DoCover outer inner → Fits inner number → Fits outer number) where
       -- a node that covers the two below it fits what lies beneath it
-      pub fits_joined : (nodes : List Bounds) (node : ℕ) (outer left right : Bounds) → AreNodes order Fits nodes → 1 ≤ node → node < length order
-          → slice_get nodes (2 * node) ≡ Some left → slice_get nodes (2 * node + 1) ≡ Some right → DoCover outer left → DoCover outer right → (key : RowKey)
-          → IsLeafBeneath order node key → Fits outer key.row
-      fits_joined nodes node outer left right are some before at_left at_right over_left over_right key leaf =
+      pub fits_joined : (nodes : List Bounds) (node : ℕ) (outer : Bounds) → AreNodes order Fits nodes → 1 ≤ node → node < length order
+          → DoCoverBelow nodes node outer → (key : RowKey) → IsLeafBeneath order node key → Fits outer key.row
+      fits_joined nodes node outer are some before below key leaf =
           elim (beneath_either node key before leaf) [
-            | inl lower ↦ covered outer left key.row over_left (are.fit (2 * node) left key (omega (arith, some)) at_left lower)
-            | inr lower ↦ covered outer right key.row over_right (are.fit (2 * node + 1) right key (omega arith) at_right lower)
+            | inl lower ↦ covered outer below.left key.row below.over_left (are.fit (2 * node) below.left key (omega (arith, some)) below.at_left lower)
+            | inr lower ↦ covered outer below.right key.row below.over_right (are.fit (2 * node + 1) below.right key (omega arith) below.at_right lower)
           ]
 
       module _ (old new : List Bounds) (leaves : AreLeavesUpTo order Fits (length order) old) (joined : AreJoinedFrom (length order) 1 old new) where
@@ -197,22 +216,23 @@ joined_fewer leaves from later old new order joined = record {
 }
 
 -- one more node is joined
-module _ (leaves node : ℕ) (old mid : List Bounds) (outer left right : Bounds) where
-  pub joined_more : node < leaves → 1 ≤ node → node < length mid → slice_get mid (2 * node) ≡ Some left → slice_get mid (2 * node + 1) ≡ Some right
-      → DoCover outer left → DoCover outer right → AreJoinedFrom leaves (node + 1) old mid → AreJoinedFrom leaves node old (set mid node outer)
-  joined_more before some within at_left at_right over_left over_right so_far = record {
+module _ (leaves node : ℕ) (old mid : List Bounds) (outer : Bounds) where
+  pub joined_more : node < leaves → 1 ≤ node → DoCoverBelow mid node outer → AreJoinedFrom leaves (node + 1) old mid
+      → AreJoinedFrom leaves node old (set mid node outer)
+  joined_more before some two so_far = record {
     count = length-set mid node outer ∙ so_far.count;
     kept = λ k from. set_elsewhere mid node k outer (λ same. omega (arith, from, before, same)) ∙ so_far.kept k from;
     cover = λ k a b from below there at. elim (cases_eq k node) [
       | inl same ↦
           let is : a ≡ outer = slice_get-set_same mid node k outer a same there in
           rw is (elim at [
-            | inl lower ↦ let one : b ≡ left =
-                same_Some b left (sym (unset (2 * k) b (omega (arith, same, some)) lower) ∙ ap (λ (n : ℕ). slice_get mid (2 * n)) same ∙ at_left) in
-                rw one over_left
-            | inr lower ↦ let one : b ≡ right =
-                same_Some b right (sym (unset (2 * k + 1) b (omega (arith, same, some)) lower) ∙ ap (λ (n : ℕ). slice_get mid (2 * n + 1)) same ∙ at_right) in
-                rw one over_right
+            | inl lower ↦ let one : b ≡ two.left =
+                same_Some b two.left (sym (unset (2 * k) b (omega (arith, same, some)) lower) ∙ ap (λ (n : ℕ). slice_get mid (2 * n)) same ∙ two.at_left) in
+                rw one two.over_left
+            | inr lower ↦ let one : b ≡ two.right =
+                same_Some b two.right
+                (sym (unset (2 * k + 1) b (omega (arith, same, some)) lower) ∙ ap (λ (n : ℕ). slice_get mid (2 * n + 1)) same ∙ two.at_right) in
+                rw one two.over_right
           ])
       | inr differ ↦
           so_far.cover k a b (omega (arith, from, differ)) below (slice_get-set_other mid node k outer a differ there) (elim at [

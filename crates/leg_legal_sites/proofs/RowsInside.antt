@@ -12,7 +12,7 @@ use Rattle.leg_legal_sites.specs.Steps.ClearSites.{IsFreeList, NoneTaken}
 use Rattle.leg_legal_sites.specs.Steps.FreeLists.{IsRowAt, AreAllInDie}
 use Rattle.leg_legal_sites.specs.Steps.FreeRows.{AreInside}
 use Rattle.leg_legal_sites.proofs.FreeLists.{free_at_first, free_same}
-use Rattle.leg_legal_sites.proofs.RowsTaken.{same_row}
+use Rattle.leg_legal_sites.proofs.TakenRows.{same_row}
 
 no_box : (box : RectModel) → ¬ Contains [] box
 no_box box (place, below, is) = absurd (omega (arith, below))

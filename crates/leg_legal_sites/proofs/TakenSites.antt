@@ -4,7 +4,7 @@ use Rattle.std.specs.Prelude.{nat_lt}
 use Rattle.std.proofs.lemmas.Bool.{cases_lt, cases_order}
 use Rattle.std.proofs.lemmas.List.Elements.{All-append, All-take, All-drop}
 use Rattle.std.proofs.lemmas.Option.{same_Some}
-use Rattle.leg_lemmas.proofs.Rising.{AllPairs-append}
+use Rattle.leg_lemmas.proofs.RisingLists.{AllPairs-append}
 use Rattle.leg_legal_sites.specs.declared.stretch.Stretch.{Stretch}
 use Rattle.leg_legal_sites.specs.Steps.Stretches.{IsFreeSite, AreFreeStretches, IsWithout}
 use Rattle.leg_legal_sites.specs.Steps.TakeSites.{IsCutAt, if_any, with_rests}

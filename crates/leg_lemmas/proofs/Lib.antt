@@ -3,8 +3,8 @@ pub mod Integers
 pub mod Naturals
 pub mod Options
 -- Lists: what they contain, what stands at their places, and how they rise
-pub mod Contained
+pub mod Contents
 pub mod Places
-pub mod Rising
+pub mod RisingLists
 pub mod Lookups
 pub mod Ranges

@@ -9,7 +9,7 @@ use Rattle.leg_lex.specs.NameLookup.{place_of}
 use Rattle.leg_lex.proofs.Parts.{made_is, rest_is}
 use Rattle.leg_lex.proofs.Until as loops
 use Rattle.leg_lex.proofs.Until.{Below, Shortens, below_none, below_some, below_bind, below_ask, below_if, until_below}
-use Rattle.leg_lex.proofs.Shorter.{keyword_below, name_below, word_below, end_below, end_of_below}
+use Rattle.leg_lex.proofs.Shorter.{keyword_below, name_below, end_below, end_of_below}
 use Rattle.leg_lex.proofs.Statements.{statement_below}
 use Rattle.leg_lex.proofs.ReadPast.{past_below}
 use Rattle.leg_lib_records.specs.Records.{RawLibraryModel, raw_master_names}
@@ -127,9 +127,6 @@ no_word_taken first words said = by (is_word first) refl where
   by : (test : Bool) → is_word first ≡ test → is_word first ≡ false
   by false is = is
   by true is = absurd (let e : ⊥ = cc (rw is at said) in e)
-
-pub word_shorter : (words : Words) (word : List ℕ) (rest : Words) → word_at words ≡ Some (word, rest) → length rest < length words
-word_shorter words word rest said = (word_below words).left word rest said
 
 -- whether Y stands among these words, each a name or a quoted word, or was found before them
 abbrev pub with_y : Bool → Words → Option Bool

@@ -36,7 +36,7 @@ fn origin_of_any(statement: Option<Cursor<'_, '_>>) -> Result<RawPoint, ReadFaul
 }
 
 /// Whether `Y` is among these words, each a name or a quoted word.
-#[tactic(auto, using(crate::proofs::MacroForms::symmetry_ends, crate::proofs::MacroForms::symmetry_on, crate::proofs::MacroForms::symmetry_fails, crate::proofs::MacroForms::word_shorter))]
+#[tactic(auto, using(crate::proofs::MacroForms::symmetry_ends, crate::proofs::MacroForms::symmetry_on, crate::proofs::MacroForms::symmetry_fails, crate::proofs::DrawnShapes::word_shorter))]
 fn has_y(words: &mut Cursor<'_, '_>) -> Result<bool, ReadFault>
     ensures { Means (λ y. y) result (if list_all is_word words.old then Some (list_any (is_keyword (codes "Y")) words.old) else None) }
 {

@@ -8,8 +8,8 @@ use Rattle.std.proofs.lemmas.List.Filters.{All-dedup}
 use Rattle.std.proofs.lemmas.List.Kept.{AllPairs-cons}
 use Rattle.std.proofs.lemmas.List.Sorted.{ranks_by, sorted_far, All-permutation, Contains-permutation}
 use Rattle.std.proofs.lemmas.Option.{same_Some, slice_get_within, get_or_from_slice_get}
-use Rattle.leg_lemmas.proofs.Contained.{Contains-nil, Contains-here, Contains-there, Contains-cons_cases}
-use Rattle.leg_lemmas.proofs.Rising.{AllPairs-nil, AllPairs-head, AllPairs-tail}
+use Rattle.leg_lemmas.proofs.Contents.{Contains-nil, Contains-here, Contains-there, Contains-cons_cases}
+use Rattle.leg_lemmas.proofs.RisingLists.{AllPairs-nil, AllPairs-head, AllPairs-tail}
 use Rattle.leg_lemmas.proofs.Places.{place_of_contained}
 use Rattle.leg_lib_records.specs.Records.{LibraryModel}
 use Rattle.leg_lib_records.specs.declared.records.Site.{Site}

@@ -2,7 +2,7 @@
 use Rattle.std.proofs.Common.{◌≡◌, ℕ, ◌<◌, List, ◌∷◌, ◌++◌, length, Some, slice_get, All, Contains, refl, sym, ◌∙◌}
 use Rattle.std.proofs.lemmas.List.Elements.{All-contains, Contains-append_right}
 use Rattle.std.proofs.lemmas.Option.{slice_get_read, slice_get_within, same_Some}
-use Rattle.leg_lemmas.proofs.Contained.{Contains-here}
+use Rattle.leg_lemmas.proofs.Contents.{Contains-here}
 use Rattle.leg_geom.specs.Plane.{RectModel, ShareSquare}
 use Rattle.leg_geom.proofs.Gaps.{ShareSquare-gaps}
 use Rattle.leg_sweep.specs.Near.{IsNear, AreNear}

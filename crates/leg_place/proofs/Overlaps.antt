@@ -5,8 +5,8 @@ use Rattle.std.proofs.lemmas.List.{take_more, map-append, append_assoc}
 use Rattle.std.proofs.lemmas.List.Elements.{All-append, All-map, All-weaker, Contains-append_left, Contains-append_right}
 use Rattle.std.proofs.lemmas.Option.{same_Some, slice_get_within, slice_get-get_or, get_or_from_slice_get}
 use Rattle.leg_lemmas.proofs.Places.{all_at, place_of_contained}
-use Rattle.leg_lemmas.proofs.Contained.{Contains-nil, Contains-map}
-use Rattle.leg_lemmas.proofs.Rising.{AllPairs-append_by, AllPairs-map_where}
+use Rattle.leg_lemmas.proofs.Contents.{Contains-nil, Contains-map}
+use Rattle.leg_lemmas.proofs.RisingLists.{AllPairs-append_by, AllPairs-map_where}
 use Rattle.leg_geom.specs.Plane.{ShareSquare}
 use Rattle.leg_sweep.specs.Pairs.{Before, ArePairs, TakesAll, TookPairs}
 use Rattle.leg_geom.specs.Pairs.{IsPair}

@@ -4,12 +4,12 @@ pub mod Appends
 pub mod SectionText
 -- The wirelength
 mod LeastBoxes
-mod BoxesKept
+mod BoxRegisters
 mod PointsOfSome
 mod DrawnPoints
-mod TerminalsKnown
+mod DrawnTerminals
 mod TerminalCentres
-mod SpecialNamed
+mod SpecialNames
 mod NetCentres
 -- What the proofs of other crates cite
 pub mod OneWirelength

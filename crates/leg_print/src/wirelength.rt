@@ -50,7 +50,7 @@ fn net_length<A: Allocator + Copy>(design: &Design<'_, A>, net: &Net<'_, A>) -> 
 }
 
 /// The terminals of the entry of `SPECIALNETS` of this name.
-#[tactic(auto, using(crate::proofs::SpecialNamed::terminals_found, crate::proofs::SpecialNamed::nothing_there, crate::proofs::SpecialNamed::nothing_named))]
+#[tactic(auto, using(crate::proofs::SpecialNames::terminals_found, crate::proofs::SpecialNames::nothing_there, crate::proofs::SpecialNames::nothing_named))]
 fn special_terminals<'d, A: Allocator + Copy>(
     design: &'d Design<'_, A>,
     name: &[u8],

@@ -15,7 +15,7 @@ use Rattle.leg_design_records.specs.Records.{DesignModel, TrackModel}
 use Rattle.leg_design_records.specs.WellFormedParts.{IsKept, IsArea, IsRow, IsTrack}
 use Rattle.leg_design_records.proofs.SameTerminal.{number_itself}
 use Rattle.leg_grammar.specs.Def.Parts.{DesignParts, no_die, no_parts, divider_form, bus_form, name_form, units_form, die_form, row_form, track_form}
-use Rattle.leg_grammar.specs.Def.Skipped.{past_def_form}
+use Rattle.leg_grammar.specs.Def.SkippedForms.{past_def_form}
 use Rattle.leg_grammar.specs.Def.Form.{header_form, def_form_at}
 use Rattle.leg_output.specs.Text.Header.{version_words, word_words, units_words, die_words}
 use Rattle.leg_output.specs.Text.Rows.{row_words}

@@ -1,8 +1,8 @@
 -- Words that stay one word in a text, and that neither end a statement nor begin a clause.
-use Rattle.std.proofs.Common.{◌≡◌, ℕ, Bool, true, false, ◌&&◌, ◌||◌, ◌==◌, List, [], ◌∷◌, ◌++◌, All, ℤ, refl, sym}
+use Rattle.std.proofs.Common.{◌≡◌, ℕ, Bool, true, false, ◌&&◌, ◌||◌, ◌==◌, List, [], ◌∷◌, ◌++◌, All, ℤ, refl}
 use Rattle.std.specs.List.{list_any, list_all, flat_map}
 use Rattle.std.specs.Str.{bytes_eq}
-use Rattle.std.proofs.lemmas.Bool.{false≢true}
+use Rattle.std.proofs.lemmas.Bool.{false≢true, or_parts}
 use Rattle.std.proofs.lemmas.List.Elements.{All-head, All-tail}
 use Rattle.std.specs.Fmt.{signed_decimal}
 use Rattle.leg_lex.specs.Words.{Words, is_name, is_word, is_mark_byte, is_plain}
@@ -81,15 +81,11 @@ inside_cons first others = record {
 }
 
 -- what none of the words is
-either_false : (a b : Bool) → (a || b) ≡ false → (a ≡ false) × (b ≡ false)
-either_false true b none = absurd (false≢true (sym none))
-either_false false b none = (refl, none)
-
 pub first_is_none : {X : Type 0} (p : X → Bool) (x : X) (xs : List X) → list_any p (x ∷ xs) ≡ false → p x ≡ false
-first_is_none p x xs none = (either_false (p x) (list_any p xs) none).0
+first_is_none p x xs none = (or_parts (p x) (list_any p xs) none).0
 
 pub others_are_none : {X : Type 0} (p : X → Bool) (x : X) (xs : List X) → list_any p (x ∷ xs) ≡ false → list_any p xs ≡ false
-others_are_none p x xs none = (either_false (p x) (list_any p xs) none).1
+others_are_none p x xs none = (or_parts (p x) (list_any p xs) none).1
 
 pub none_append : {X : Type 0} (p : X → Bool) (xs ys : List X) → list_any p xs ≡ false → list_any p ys ≡ false → list_any p (xs ++ ys) ≡ false
 none_append p [] ys first others = others

@@ -4,6 +4,7 @@ use Rattle.std.specs.List.{list_any, list_all, find, slice_range}
 use Rattle.std.proofs.lemmas.Bool.{false≢true, and_parts}
 use Rattle.std.proofs.lemmas.Bool.Decides.{nat_tests}
 use Rattle.std.proofs.lemmas.Option.{slice_get-map}
+use Rattle.std.proofs.lemmas.List.Folds.{list_all-map}
 use Rattle.std.proofs.lemmas.List.Elements.{All-head, All-tail, All-nil, All-cons}
 use Rattle.leg_lib_records.specs.declared.joins.ViaPart.{ViaPart}
 use Rattle.leg_lib_records.specs.declared.records.LayerKind.{LayerKind}
@@ -28,10 +29,6 @@ all_pass p (x ∷ xs) all = All-cons (λ y. p y ≡ true) x xs (and_parts (p x) 
 any_map : {X Y : Type 0} (p : Y → Bool) (f : X → Y) (xs : List X) → list_any p (map f xs) ≡ list_any (λ x. p (f x)) xs
 any_map p f [] = refl
 any_map p f (x ∷ xs) = ap (λ later. p (f x) || later) (any_map p f xs)
-
-all_map : {X Y : Type 0} (p : Y → Bool) (f : X → Y) (xs : List X) → list_all p (map f xs) ≡ list_all (λ x. p (f x)) xs
-all_map p f [] = refl
-all_map p f (x ∷ xs) = ap (λ later. p (f x) && later) (all_map p f xs)
 
 -- the first element that passes
 found_first : {X : Type 0} (p : X → Bool) (xs : List X) → list_any p xs ≡ true → (x : X) × (find p xs ≡ Some x)
@@ -100,7 +97,7 @@ module _ (library : LibraryModel) (shapes : List Shape) where
       let above = less_from b.layer c.layer four.1 in
       let parts =
       all_pass (λ shape. is_part a.layer b.layer c.layer (part_of shape)) shapes
-      (sym (all_map (is_part a.layer b.layer c.layer) part_of shapes) ∙ last.1) in record {
+      (sym (list_all-map (is_part a.layer b.layer c.layer) part_of shapes) ∙ last.1) in record {
         cut = b.layer;
         below = below;
         above = above;

@@ -2,7 +2,7 @@
 use Rattle.std.proofs.Common.{◌≡◌, ◌≢◌, ℕ, Bool, true, false, not, ◌&&◌, List, [], ◌∷◌, ◌++◌, All, AllPairs, Contains, length, slice_get, Some, codes, refl, sym, ◌∙◌, subst, arith}
 use Rattle.std.specs.List.{flat_map}
 use Rattle.std.specs.Str.{bytes_eq}
-use Rattle.std.proofs.lemmas.Bool.{false≢true, and_parts}
+use Rattle.std.proofs.lemmas.Bool.{false≢true, and_parts, and_right}
 use Rattle.std.proofs.Math.Seq.{get_or-append_seam}
 use Rattle.std.proofs.lemmas.List.{get_or_append_left}
 use Rattle.leg_lemmas.proofs.Places.{there_is, all_at}
@@ -33,10 +33,6 @@ use Rattle.leg_print_laws.proofs.FreeWords.{AreFree, free_literal, free_name, fr
 use Rattle.leg_print_laws.proofs.Again.{all_again}
 use Rattle.leg_print_laws.proofs.NumberedNames.{found, name_is, within, middle}
 use Rattle.leg_print_laws.proofs.Wires.{no_mark}
-
-and_false : (a b : Bool) → b ≡ false → (a && b) ≡ false
-and_false true b is = is
-and_false false b is = refl
 
 -- What is known of the two names of a pin of a component.
 record ArePinNames (design : DesignModel) (c k : ℕ) : Type 0 where
@@ -72,7 +68,7 @@ module _ (design : DesignModel) (sound : IsSound design.library) (components : A
         are.component_there,
         are.master_there,
         are.pin_there,
-        and_false special (is_keyword (codes "*") are.component.name) (no_mark 42 refl (omega arith) are.component.name one.name),
+        and_right special (is_keyword (codes "*") are.component.name) (no_mark 42 refl (omega arith) are.component.name one.name),
         one.name,
         name_is (λ (p : MasterPinModel). p.name) are.master.pins k are.pin are.pin_there macro.pin_names.each,
         one.no_pin,
@@ -88,7 +84,7 @@ module _ (design : DesignModel) (sound : IsSound design.library) (components : A
   pin_again special p pin rest is =
       rw (
         is,
-        and_false special (is_keyword (codes "*") (codes "PIN")) refl,
+        and_right special (is_keyword (codes "*") (codes "PIN")) refl,
         (all_at (IsPin design.library) design.pins p pin pins.each is).name,
         found (λ (x : PinModel). x.name) design.pins p pin is pins.apart,
       ) refl

@@ -181,8 +181,8 @@ module _ (grid : GridModel) (flat : FlatModel) (slots : List SlotAccess) (net : 
     pub found_nearest : (left_out : Bool) (answer : Option (List ℕ)) → IsRound (IsNodeAdmitted slots net) StepAdmitted Origin (Contains ends) left_out answer
         → IsNearestAt grid flat net ends left_out answer
     found_nearest left_out None none = λ closed.
-        none_as (IsNodeAdmitted slots net) (OpenAt grid flat net) StepAdmitted (StepAt grid flat net) Origin (Contains ends) Joined (Contains ends) opens steps_open
-        begun ended (none closed)
+        none_as (IsNodeAdmitted slots net) (OpenAt grid flat net) StepAdmitted (StepAt grid flat net) Origin (Contains ends) Joined (Contains ends) opens
+        steps_open begun ended (none closed)
     found_nearest left_out (Some numbers) is =
         shortest_as (IsNodeAdmitted slots net) (OpenAt grid flat net) StepAdmitted (StepAt grid flat net) Origin (Contains ends) Joined (Contains ends) opens
         steps_open begun ended numbers is

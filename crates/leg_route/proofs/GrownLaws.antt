@@ -12,7 +12,7 @@ use Rattle.leg_rules.specs.Metal.Flat.{FlatModel, IsFlatOf}
 use Rattle.leg_route_laws.specs.Growth.{AddedWire, Grows, of_net}
 use Rattle.leg_route_laws.specs.CleanWire.{HasNoSpacingFault, IsCleanWire}
 use Rattle.leg_route_laws.specs.Lines.{EachStep, last_spot, AreInLine}
-use Rattle.leg_route_laws.specs.Finished.{finished, AreByNet, IsFinishedFrom}
+use Rattle.leg_route_laws.specs.FinishedDesign.{finished, AreByNet, IsFinishedFrom}
 use Rattle.leg_rules.specs.Violations.{IsViolationIn}
 use Rattle.leg_rules.specs.Joins.Violations.{IsOpenNet}
 

@@ -22,14 +22,26 @@ use Rattle.leg_route_grid.specs.declared.hulls.Hull.{Hull}
 use Rattle.leg_route_grid.specs.Steps.WalkBounds.{bound_at, IsBoxOf}
 use Rattle.leg_route_grid.specs.Steps.Grid.{GridModel, slot_total}
 use Rattle.leg_route_laws.proofs.Places.{is_like, comes_from}
+use Rattle.leg_route.specs.declared.joined_part.JoinedPart.{JoinedPart}
 use Rattle.leg_route.specs.Steps.EndSlots.{MeetsPiece, IsFarSlot}
-use Rattle.leg_route.specs.Steps.NetEnds.{EndsModel}
+use Rattle.leg_route.specs.Steps.NetEnds.{EndsModel, ends_in}
 use Rattle.leg_route.specs.Steps.NetSlots.{MeetsMarked, IsPartOf}
 use Rattle.leg_route.specs.Steps.JoinedPart.{PartModel, MeetsPart, LiesInPiece, IsJoinedPart}
 use Rattle.leg_route.proofs.JoinedSlots.{one_as}
 use Rattle.leg_route.proofs.FarSlots.{far_grows}
 use Rattle.leg_route.proofs.NetEnds.{net_ends_as}
 use Rattle.leg_route.proofs.MoreWires.{count_at, count_as, with_count, one_piece, step_pieces}
+
+-- what the code keeps
+abbrev pub part_in : {A : Type 0} → JoinedPart A → PartModel
+part_in part = record {
+  net = part.net;
+  joined = part.joined.items;
+  boxes = part.slots.boxes.items;
+  slots = part.slots.slots.items;
+  hulls = part.hulls.items;
+  ends = ends_in part.ends;
+}
 
 -- a piece that is joined has its mark
 pub marked_joined : (joined : List Bool) (Is : ℕ → Type 0) (size : ℕ) → AreMarks Is size joined → (k : ℕ) → k < length joined → Is k
@@ -125,7 +137,8 @@ module _ (design : DesignModel) (net : ℕ) (wire : records.Wire) (before after 
     -- and in an old piece no more does
     lies_back : (k layer : ℕ) (p : PointModel) → k < piece_count before n → LiesIn after n k layer p → LiesIn before n k layer p
     lies_back k layer p low h =
-        let has = subst (λ (shapes : List Shape). Contains shapes h.shape) more.shapes h.has in elim (Contains-append_cases before.shapes more.added h.shape has) [
+        let has = subst (λ (shapes : List Shape). Contains shapes h.shape) more.shapes h.has in
+        elim (Contains-append_cases before.shapes more.added h.shape has) [
           | inl old ↦
               record {
                 shape = h.shape;

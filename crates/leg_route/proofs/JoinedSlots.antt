@@ -12,12 +12,14 @@ use Rattle.leg_route_grid.specs.Steps.NodesInRect.{LiesInRect}
 use Rattle.leg_route.specs.Steps.JoinedPart.{HaveGotSlots, MeetsMetal, MeetsPieces}
 
 -- of a node for another reason
-pub one_as : (grid : GridModel) (Holds Then : Node → Type 0) → ((node : Node) → Holds node → Then node) → (n : ℕ) → IsOneOf (IsNumberOf grid) Holds n → IsOneOf (IsNumberOf grid) Then n
+pub one_as : (grid : GridModel) (Holds Then : Node → Type 0) → ((node : Node) → Holds node → Then node) → (n : ℕ)
+    → IsOneOf (IsNumberOf grid) Holds n → IsOneOf (IsNumberOf grid) Then n
 one_as grid Holds Then then n one = record { node = one.node; is = one.is; holds = then one.node one.holds }
 
 module _ (grid : GridModel) where
   -- no slot comes
-  got_none : (Holds : Node → Type 0) (boxes : List SlotBox) (slots : List ℕ) → ((node : Node) → Holds node → ⊥) → HaveGotSlots grid Holds boxes slots boxes slots
+  got_none : (Holds : Node → Type 0) (boxes : List SlotBox) (slots : List ℕ) → ((node : Node) → Holds node → ⊥)
+      → HaveGotSlots grid Holds boxes slots boxes slots
   got_none Holds boxes slots none = record {
     are = λ n. (λ has. inl has, λ is. elim is [ inl had ↦ had | inr one ↦ absurd (none one.node one.holds) ]);
     within = λ all. all;
@@ -27,8 +29,9 @@ module _ (grid : GridModel) where
   }
 
   -- those of one kind come, and then those of another
-  got_both : (P Q Then : Node → Type 0) (boxes boxes_between boxes_after : List SlotBox) (slots between after : List ℕ) → ((node : Node) → P node → Then node) → ((node : Node) → Q node → Then node)
-      → ((node : Node) → Then node → P node ⊎ Q node) → HaveGotSlots grid P boxes slots boxes_between between → HaveGotSlots grid Q boxes_between between boxes_after after
+  got_both : (P Q Then : Node → Type 0) (boxes boxes_between boxes_after : List SlotBox) (slots between after : List ℕ)
+      → ((node : Node) → P node → Then node) → ((node : Node) → Q node → Then node) → ((node : Node) → Then node → P node ⊎ Q node)
+      → HaveGotSlots grid P boxes slots boxes_between between → HaveGotSlots grid Q boxes_between between boxes_after after
       → HaveGotSlots grid Then boxes slots boxes_after after
   got_both P Q Then boxes boxes_between boxes_after slots between after from_p from_q into first next = record {
     are = λ n. (
@@ -55,7 +58,8 @@ module _ (grid : GridModel) where
   metal_none boxes slots = got_none (MeetsMetal []) boxes slots (λ node meets. Contains-nil meets.shape meets.has)
 
   pub metal_more : (metal : List PieceShape) (shape : PieceShape) (boxes boxes_between boxes_after : List SlotBox) (slots between after : List ℕ)
-      → HaveGotSlots grid (MeetsMetal metal) boxes slots boxes_between between → HaveGotSlots grid (LiesInRect shape.layer shape.rect) boxes_between between boxes_after after
+      → HaveGotSlots grid (MeetsMetal metal) boxes slots boxes_between between
+      → HaveGotSlots grid (LiesInRect shape.layer shape.rect) boxes_between between boxes_after after
       → HaveGotSlots grid (MeetsMetal (metal ++ shape ∷ [])) boxes slots boxes_after after
   metal_more metal shape boxes boxes_between boxes_after slots between after =
       got_both (MeetsMetal metal) (LiesInRect shape.layer shape.rect) (MeetsMetal (metal ++ shape ∷ [])) boxes boxes_between boxes_after slots between after
@@ -71,12 +75,20 @@ module _ (grid : GridModel) where
     pub pieces_none : (boxes : List SlotBox) (slots : List ℕ) → HaveGotSlots grid (MeetsPieces metal []) boxes slots boxes slots
     pieces_none boxes slots = got_none (MeetsPieces metal []) boxes slots (λ node meets. Contains-nil meets.shape.piece meets.of_piece)
 
-    pub pieces_more : (pieces : List ℕ) (piece : ℕ) (own : List PieceShape) → ((shape : PieceShape) → Contains own shape ↔ (Contains metal shape × (shape.piece ≡ piece)))
-        → (boxes boxes_between boxes_after : List SlotBox) (slots between after : List ℕ) → HaveGotSlots grid (MeetsPieces metal pieces) boxes slots boxes_between between
-        → HaveGotSlots grid (MeetsMetal own) boxes_between between boxes_after after → HaveGotSlots grid (MeetsPieces metal (pieces ++ piece ∷ [])) boxes slots boxes_after after
+    pub pieces_more : (pieces : List ℕ) (piece : ℕ) (own : List PieceShape)
+        → ((shape : PieceShape) → Contains own shape ↔ (Contains metal shape × (shape.piece ≡ piece)))
+        → (boxes boxes_between boxes_after : List SlotBox) (slots between after : List ℕ)
+        → HaveGotSlots grid (MeetsPieces metal pieces) boxes slots boxes_between between
+        → HaveGotSlots grid (MeetsMetal own) boxes_between between boxes_after after
+        → HaveGotSlots grid (MeetsPieces metal (pieces ++ piece ∷ [])) boxes slots boxes_after after
     pieces_more pieces piece own are boxes boxes_between boxes_after slots between after =
         got_both (MeetsPieces metal pieces) (MeetsMetal own) (MeetsPieces metal (pieces ++ piece ∷ [])) boxes boxes_between boxes_after slots between after
-        (λ node meets. record { shape = meets.shape; has = meets.has; of_piece = Contains-append_left pieces (piece ∷ []) meets.shape.piece meets.of_piece; lies = meets.lies })
+        (λ node meets. record {
+          shape = meets.shape;
+          has = meets.has;
+          of_piece = Contains-append_left pieces (piece ∷ []) meets.shape.piece meets.of_piece;
+          lies = meets.lies;
+        })
         (λ node meets.
         let is = (are meets.shape).0 meets.has in
         record { shape = meets.shape; has = is.0; of_piece = rw is.1 (Contains-push pieces piece); lies = meets.lies })

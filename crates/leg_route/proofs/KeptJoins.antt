@@ -52,7 +52,15 @@ module _ (design : DesignModel) (net : ℕ) (wire : records.Wire) (before after 
   ]
 
   -- what is kept is right with the new piece
-  module _ (joins new : JoinsModel) (of_net : joins.net ≡ net) (is_whole : joins.is_whole ≡ true) (are : AreJoinsOf before joins) (with_piece : HasOnePieceMore joins more.added new) where
+  module _ (joins new : JoinsModel) (of_net : joins.net ≡ net) (is_whole : joins.is_whole ≡ true) (are : AreJoinsOf before joins)
+      (with_piece : HasOnePieceMore joins more.added new) where
+    -- a shape as metal of the new piece, and all of that
+    abbrev as_new : Shape → PieceShape
+    as_new shape = record { piece = length joins.sets; layer = shape.layer; rect = shape.rect }
+
+    abbrev new_metal : List PieceShape
+    new_metal = metal_of_piece (length joins.sets) more.added
+
     last_is : length joins.sets ≡ last
     last_is = are.count ∙ rw of_net had
 
@@ -65,13 +73,14 @@ module _ (design : DesignModel) (net : ℕ) (wire : records.Wire) (before after 
           rect = is.rect;
         }
 
-    metal_each : (piece : PieceShape) → Contains (joins.metal ++ metal_of_piece (length joins.sets) more.added) piece → (shape : Shape) × Contains after.shapes shape × IsPieceShape after net shape piece
-    metal_each piece there = elim (Contains-append_cases joins.metal (metal_of_piece (length joins.sets) more.added) piece there) [
+    metal_each : (piece : PieceShape) → Contains (joins.metal ++ new_metal) piece
+        → (shape : Shape) × Contains after.shapes shape × IsPieceShape after net shape piece
+    metal_each piece there = elim (Contains-append_cases joins.metal new_metal piece there) [
       | inl old ↦
           let from = are.metal.each piece old in
           (from.0, there_still from.0 from.1, old_metal from.0 piece from.2)
       | inr new ↦
-          let from = comes_from (λ (shape : Shape). record { piece = length joins.sets; layer = shape.layer; rect = shape.rect }) more.added piece new in
+          let from = comes_from as_new more.added piece new in
           let is = is_new from.0 from.1 in
           rw (← from.2) (
             from.0,
@@ -84,20 +93,20 @@ module _ (design : DesignModel) (net : ℕ) (wire : records.Wire) (before after 
           )
     ]
 
-    metal_all : (shape : Shape) (piece : PieceShape) → Contains after.shapes shape → IsPieceShape after net shape piece → Contains (joins.metal ++ metal_of_piece (length joins.sets) more.added) piece
+    metal_all : (shape : Shape) (piece : PieceShape) → Contains after.shapes shape → IsPieceShape after net shape piece
+        → Contains (joins.metal ++ new_metal) piece
     metal_all shape piece there is = elim (old_or_new shape there) [
       | inl old ↦
           let whole : IsWholeNet before net = rw of_net at (are.whole is_whole) in
           let low : piece.piece < piece_count before net = whole shape piece.piece old is.of_piece.owner is.of_piece.piece in
-          Contains-append_left joins.metal (metal_of_piece (length joins.sets) more.added) piece
+          Contains-append_left joins.metal new_metal piece
           (are.metal.all shape piece old
           (rw of_net (record { of_piece = record { there = low; owner = is.of_piece.owner; piece = is.of_piece.piece }; layer = is.layer; rect = is.rect })))
       | inr new ↦
-          let same : piece.piece ≡ length joins.sets = same_Some piece.piece (length joins.sets) (sym is.of_piece.piece ∙ (is_new shape new).piece ∙ ap Some (sym last_is)) in
-          let piece_is : piece ≡ record { piece = length joins.sets; layer = shape.layer; rect = shape.rect } = rw (← same, ← is.layer, ← is.rect) refl in
-          rw piece_is
-          (Contains-append_right joins.metal (metal_of_piece (length joins.sets) more.added) (record { piece = length joins.sets; layer = shape.layer; rect = shape.rect })
-          (Contains-map (λ (s : Shape). record { piece = length joins.sets; layer = s.layer; rect = s.rect }) more.added shape new))
+          let same : piece.piece ≡ length joins.sets =
+          same_Some piece.piece (length joins.sets) (sym is.of_piece.piece ∙ (is_new shape new).piece ∙ ap Some (sym last_is)) in
+          let piece_is : piece ≡ as_new shape = rw (← same, ← is.layer, ← is.rect) refl in
+          rw piece_is (Contains-append_right joins.metal new_metal (as_new shape) (Contains-map as_new more.added shape new))
     ]
 
     joins_with : AreJoinsOf after new
@@ -108,14 +117,15 @@ module _ (design : DesignModel) (net : ℕ) (wire : records.Wire) (before after 
     }
 
   -- and so where something is kept
-  pub kept_with : (joins after_joins : Option JoinsModel) → IfSome joins (AreJoinsOf before) → IfSome after_joins (IsWithWire joins net more.added) → IfSome after_joins (AreJoinsOf after)
+  pub kept_with : (joins after_joins : Option JoinsModel) → IfSome joins (AreJoinsOf before) → IfSome after_joins (IsWithWire joins net more.added)
+      → IfSome after_joins (AreJoinsOf after)
   kept_with joins None had_are with_wire = with_wire
   kept_with joins (Some new) had_are with_wire =
       joins_with with_wire.before new with_wire.of_net with_wire.is_whole (rw with_wire.is at had_are) with_wire.more
 
 -- no piece is given with a wire
-pub given_with : (part : PartModel) (joins after : Option JoinsModel) (net : ℕ) (shapes : List Shape) → IfSome joins (λ kept. AreGivenTo part kept) → IfSome after (IsWithWire joins net shapes)
-    → IfSome after (λ kept. AreGivenTo part kept)
+pub given_with : (part : PartModel) (joins after : Option JoinsModel) (net : ℕ) (shapes : List Shape) → IfSome joins (λ kept. AreGivenTo part kept)
+    → IfSome after (IsWithWire joins net shapes) → IfSome after (λ kept. AreGivenTo part kept)
 given_with part joins None net shapes given with_wire = tt
 given_with part joins (Some new) net shapes given with_wire =
     let was : AreGivenTo part with_wire.before = rw with_wire.is at given in
@@ -124,7 +134,8 @@ given_with part joins (Some new) net shapes given with_wire =
     (with_wire.more.net ∙ is.0, is.1)
 
 -- of what is kept or is made anew, what was given is in the part
-pub given_kept : (part : PartModel) (kept : Option JoinsModel) (joins : JoinsModel) → IfSome kept (λ had. AreGivenTo part had) → joins.given ≡ [] ⊎ kept ≡ Some joins → AreGivenTo part joins
+pub given_kept : (part : PartModel) (kept : Option JoinsModel) (joins : JoinsModel) → IfSome kept (λ had. AreGivenTo part had)
+    → joins.given ≡ [] ⊎ kept ≡ Some joins → AreGivenTo part joins
 given_kept part kept joins given from = elim from [
   | inl none ↦ λ k has. absurd (Contains-nil k (rw none at has))
   | inr is ↦ rw is at given

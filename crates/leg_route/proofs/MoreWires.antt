@@ -58,7 +58,8 @@ module _ (design : DesignModel) (net : ℕ) where
   pub one_piece : (wire : Wire) (f g : FlatModel) → HasOneMoreWire design net wire f g → piece_count g net ≡ piece_count f net + 1
   one_piece wire f g step =
       let here : slice_get g.pieces net ≡ Some (pieces_with step.terminals (step.wires + 1)) =
-      ap (λ (ps : List (List Piece)). slice_get ps net) step.pieces ∙ set_here f.pieces net (pieces_with step.terminals step.wires) (pieces_with step.terminals (step.wires + 1)) step.there in
+      ap (λ (ps : List (List Piece)). slice_get ps net) step.pieces
+      ∙ set_here f.pieces net (pieces_with step.terminals step.wires) (pieces_with step.terminals (step.wires + 1)) step.there in
       let then = count_at g net (pieces_with step.terminals (step.wires + 1)) here in
       let first = count_at f net (pieces_with step.terminals step.wires) step.there in
       let many = with_count step.terminals (step.wires + 1) in
@@ -82,7 +83,8 @@ module _ (design : DesignModel) (net : ℕ) where
   module _ (n : ℕ) (other : n ≢ net) where
     pub step_pieces : (wire : Wire) (f g : FlatModel) → HasOneMoreWire design net wire f g → slice_get g.pieces n ≡ slice_get f.pieces n
     step_pieces wire f g step =
-        ap (λ (ps : List (List Piece)). slice_get ps n) step.pieces ∙ set_elsewhere f.pieces net n (pieces_with step.terminals (step.wires + 1)) (λ same. other (sym same))
+        ap (λ (ps : List (List Piece)). slice_get ps n) step.pieces
+        ∙ set_elsewhere f.pieces net n (pieces_with step.terminals (step.wires + 1)) (λ same. other (sym same))
 
     step_shape : (wire : Wire) (f g : FlatModel) (shape : Shape) → HasOneMoreWire design net wire f g → Contains f.shapes shape → Contains g.shapes shape
     step_shape wire f g shape step there =

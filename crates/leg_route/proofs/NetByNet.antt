@@ -1,5 +1,5 @@
 -- A run over all nets, of which one after another has its turn.
-use Rattle.std.proofs.Common.{◌≡◌, ◌≢◌, ◌==◌, ◌+◌, ◌<◌, ◌≤◌, ℕ, zero, suc, Bool, true, false, List, [], ◌∷◌, ◌++◌, length, map, All, Some, slice_get, ◌⊎◌, inl, inr, refl, sym, ap, ◌∙◌, subst, arith}
+use Rattle.std.proofs.Common.{◌≡◌, ◌≢◌, ◌==◌, ◌+◌, ◌<◌, ◌≤◌, ℕ, zero, suc, true, false, List, [], ◌∷◌, ◌++◌, length, map, All, Some, slice_get, ◌⊎◌, inl, inr, refl, sym, ap, ◌∙◌, subst, arith}
 use Rattle.std.proofs.lemmas.Bool.{cases_lt}
 use Rattle.std.proofs.lemmas.Bool.Decides.{nat_tests}
 use Rattle.std.proofs.lemmas.Option.{none-some}
@@ -10,7 +10,7 @@ use Rattle.leg_design_records.specs.Records.{DesignModel}
 use Rattle.leg_flat.specs.Limits.{IsWithinLimits}
 use Rattle.leg_rules.specs.Metal.Flat.{FlatModel}
 use Rattle.leg_rules.specs.Route.Spelling.{AreWiresOf}
-use Rattle.leg_rules.specs.Route.Run.{Added, RouteRun, IsTurn, IsDone}
+use Rattle.leg_rules.specs.Route.Run.{NetWires, RouteRun, IsTurn, IsDone}
 use Rattle.leg_rules.specs.Joins.Violations.{IsOpenNet}
 use Rattle.leg_rules.specs.Route.Run.RouteRun.{begun as run_begins, walked as run_goes_on}
 use Rattle.leg_rules.specs.Route.Refusals.{IsUnroutable}
@@ -27,36 +27,26 @@ use Rattle.leg_route.specs.Steps.NetRun.NetRun.{begun, walked}
 use Rattle.leg_route.specs.Steps.Stops.{IsNetStop, IsRunStop}
 use Rattle.leg_route.specs.Steps.RunSoFar.{IsRunSoFar}
 use Rattle.leg_route.proofs.MoreWires.{stays_joined}
+use Rattle.leg_route.proofs.RunFacts.{wires_for_both}
 
 -- the wires of a net among those of a run
-for_next : (n : ℕ) (one : Added) (first second : List Added) → wires_for n (first ++ second) ≡ wires_for n first ++ wires_for n second
-    → wires_for n (one ∷ (first ++ second)) ≡ wires_for n (one ∷ first) ++ wires_for n second
-for_next n one first second rest = by (one.net == n) refl where
-  by : (b : Bool) → (one.net == n) ≡ b → wires_for n (one ∷ (first ++ second)) ≡ wires_for n (one ∷ first) ++ wires_for n second
-  by true same = rw same (ap (λ ws. one.wires ++ ws) rest ∙ sym (append_assoc one.wires (wires_for n first) (wires_for n second)))
-  by false differ = rw differ rest
-
-for_then : (n : ℕ) (first second : List Added) → wires_for n (first ++ second) ≡ wires_for n first ++ wires_for n second
-for_then n [] second = refl
-for_then n (one ∷ first) second = for_next n one first second (for_then n first second)
-
 for_own : (net : ℕ) (wires : List Wire) → wires_for net (record { net = net; wires = wires } ∷ []) ≡ wires
 for_own net wires = let test : (net == net) ≡ true = grind (arith, nat_tests) in rw test (append-nil wires)
 
-abbrev IsBelow : ℕ → Added → Type 0
+abbrev IsBelow : ℕ → NetWires → Type 0
 IsBelow n one = one.net < n
 
-abbrev IsOf : ℕ → Added → Type 0
+abbrev IsOf : ℕ → NetWires → Type 0
 IsOf n one = one.net ≡ n
 
-for_past : (n : ℕ) (added : List Added) → All (IsBelow n) added → wires_for n added ≡ []
+for_past : (n : ℕ) (added : List NetWires) → All (IsBelow n) added → wires_for n added ≡ []
 for_past n [] all = refl
 for_past n (one ∷ added) all =
     let less : one.net < n = All-head (IsBelow n) one added all in
     let test : (one.net == n) ≡ false = grind (arith, nat_tests, less) in
     rw test (for_past n added (All-tail (IsBelow n) one added all))
 
-for_other : (n net : ℕ) (walks : List Added) → n ≢ net → All (IsOf net) walks → wires_for n walks ≡ []
+for_other : (n net : ℕ) (walks : List NetWires) → n ≢ net → All (IsOf net) walks → wires_for n walks ≡ []
 for_other n net [] other all = refl
 for_other n net (one ∷ walks) other all =
     let own : one.net ≡ net = All-head (IsOf net) one walks all in
@@ -64,27 +54,27 @@ for_other n net (one ∷ walks) other all =
     let test : (one.net == n) ≡ false = grind (arith, nat_tests, differ) in
     rw test (for_other n net walks other (All-tail (IsOf net) one walks all))
 
-below_more : (n : ℕ) (added : List Added) → All (IsBelow n) added → All (IsBelow (n + 1)) added
+below_more : (n : ℕ) (added : List NetWires) → All (IsBelow n) added → All (IsBelow (n + 1)) added
 below_more n [] all = All-nil (IsBelow (n + 1))
 below_more n (one ∷ added) all =
     let less : one.net < n = All-head (IsBelow n) one added all in
     All-cons (IsBelow (n + 1)) one added (omega (arith, less)) (below_more n added (All-tail (IsBelow n) one added all))
 
-own_below : (n : ℕ) (walks : List Added) → All (IsOf n) walks → All (IsBelow (n + 1)) walks
+own_below : (n : ℕ) (walks : List NetWires) → All (IsOf n) walks → All (IsBelow (n + 1)) walks
 own_below n [] all = All-nil (IsBelow (n + 1))
 own_below n (one ∷ walks) all =
     let own : one.net ≡ n = All-head (IsOf n) one walks all in
     All-cons (IsBelow (n + 1)) one walks (omega (arith, own)) (own_below n walks (All-tail (IsOf n) one walks all))
 
 -- the run goes on by the walks of one net
-record HasWalks (design : DesignModel) (flat : FlatModel) (net : ℕ) (added : List Added) (wires : List Wire) (grown : FlatModel) : Type 0 where
-  pub walks : List Added
+record HasWalks (design : DesignModel) (flat : FlatModel) (net : ℕ) (added : List NetWires) (wires : List Wire) (grown : FlatModel) : Type 0 where
+  pub walks : List NetWires
   pub run : RouteRun design flat (added ++ walks) grown
   pub own : All (IsOf net) walks
   pub wires_are : wires_for net walks ≡ wires
   pub joined : (other : ℕ) → other < net → ¬ IsOpenNet design grown other
 
-module _ (design : DesignModel) (flat : FlatModel) (net : ℕ) (added : List Added) (mid : FlatModel) (run : RouteRun design flat added mid)
+module _ (design : DesignModel) (flat : FlatModel) (net : ℕ) (added : List NetWires) (mid : FlatModel) (run : RouteRun design flat added mid)
     (joined : (other : ℕ) → other < net → ¬ IsOpenNet design mid other) where
   has_walks : (wires : List Wire) (grown : FlatModel) → NetRun design net mid wires grown → HasWalks design flat net added wires grown
   has_walks wires grown begun = record {
@@ -96,15 +86,17 @@ module _ (design : DesignModel) (flat : FlatModel) (net : ℕ) (added : List Add
   }
   has_walks wires grown (walked {mid = last} {nodes = nodes} had more net_run is_open walk are grows) =
       let before = has_walks had last net_run in
-      let one : Added = record { net = net; wires = more } in
+      let one : NetWires = record { net = net; wires = more } in
       let turn : IsTurn design last net = record { is_open = is_open; first = before.joined } in
       record {
         walks = before.walks ++ one ∷ [];
         run = subst (λ a. RouteRun design flat a grown) (append_assoc added before.walks (one ∷ [])) (run_goes_on net before.run turn walk are grows);
         own = All-append (IsOf net) before.walks (one ∷ []) before.own (All-cons (IsOf net) one [] refl (All-nil (IsOf net)));
         wires_are =
-            for_then net before.walks (one ∷ []) ∙ ap (λ ws. ws ++ wires_for net (one ∷ [])) before.wires_are ∙ ap (λ ws. had ++ ws) (for_own net more);
-        joined = λ other less. stays_joined design net other (λ same. let e : ⊥ = omega (arith, less, same) in e) more last grown grows (before.joined other less);
+            wires_for_both net before.walks (one ∷ []) ∙ ap (λ ws. ws ++ wires_for net (one ∷ [])) before.wires_are
+            ∙ ap (λ ws. had ++ ws) (for_own net more);
+        joined = λ other less.
+            stays_joined design net other (λ same. let e : ⊥ = omega (arith, less, same) in e) more last grown grows (before.joined other less);
       }
 
 -- what a list has after one more
@@ -117,8 +109,8 @@ get_last : {X : Type 0} (xs : List X) (x : X) → slice_get (xs ++ x ∷ []) (le
 get_last [] x = refl
 get_last (y ∷ xs) x = get_last xs x
 
-lists_next : (net : ℕ) (added walks : List Added) (lists : List (List Wire)) (wires : List Wire) → AreListsOf net added lists → All (IsBelow net) added → All (IsOf net) walks
-    → wires_for net walks ≡ wires → AreListsOf (net + 1) (added ++ walks) (lists ++ wires ∷ [])
+lists_next : (net : ℕ) (added walks : List NetWires) (lists : List (List Wire)) (wires : List Wire) → AreListsOf net added lists
+    → All (IsBelow net) added → All (IsOf net) walks → wires_for net walks ≡ wires → AreListsOf (net + 1) (added ++ walks) (lists ++ wires ∷ [])
 lists_next net added walks lists wires are below own wires_are = record {
   one_each = let count = are.one_each in let then = length-append lists (wires ∷ []) in omega (arith, count, then);
   each = each;
@@ -127,17 +119,19 @@ lists_next net added walks lists wires are below own wires_are = record {
   each n less = by (cases_lt n net) where
     by : (n < net) ⊎ (net ≤ n) → slice_get (lists ++ wires ∷ []) n ≡ Some (wires_for n (added ++ walks))
     by (inl before) =
+        let none : wires_for n walks ≡ [] = for_other n net walks (λ same. let e : ⊥ = omega (arith, before, same) in e) own in
         get_first lists (wires ∷ []) n (wires_for n added) (are.each n before)
-        ∙ ap Some (sym (for_then n added walks ∙ ap (λ ws. wires_for n added ++ ws) (for_other n net walks (λ same. let e : ⊥ = omega (arith, before, same) in e) own) ∙ append-nil (wires_for n added)))
+        ∙ ap Some (sym (wires_for_both n added walks ∙ ap (λ ws. wires_for n added ++ ws) none ∙ append-nil (wires_for n added)))
     by (inr past) =
         let same : net ≡ n = omega (arith, less, past) in
         let here : slice_get (lists ++ wires ∷ []) net ≡ Some (wires_for net (added ++ walks)) =
         ap (λ k. slice_get (lists ++ wires ∷ []) k) (sym are.one_each) ∙ get_last lists wires
-        ∙ ap Some (sym (for_then net added walks ∙ ap (λ ws. ws ++ wires_for net walks) (for_past net added below) ∙ wires_are)) in
+        ∙ ap Some (sym (wires_for_both net added walks ∙ ap (λ ws. ws ++ wires_for net walks) (for_past net added below) ∙ wires_are)) in
         subst (λ k. slice_get (lists ++ wires ∷ []) k ≡ Some (wires_for k (added ++ walks))) same here
 
-pub underway_next : (design : DesignModel) (flat : FlatModel) (net : ℕ) (lists : List (List Wire)) (mid grown : FlatModel) (wires : List Wire) → IsRunSoFar design flat net lists mid
-    → NetRun design net mid wires grown → ¬ IsOpenNet design grown net → IsRunSoFar design flat (net + 1) (lists ++ wires ∷ []) grown
+pub underway_next : (design : DesignModel) (flat : FlatModel) (net : ℕ) (lists : List (List Wire)) (mid grown : FlatModel) (wires : List Wire)
+    → IsRunSoFar design flat net lists mid → NetRun design net mid wires grown → ¬ IsOpenNet design grown net
+    → IsRunSoFar design flat (net + 1) (lists ++ wires ∷ []) grown
 underway_next design flat net lists mid grown wires u net_run closed =
     let w = has_walks design flat net u.added mid u.run u.joined wires grown net_run in record {
       added = u.added ++ w.walks;
@@ -163,8 +157,8 @@ underway_first design flat = record {
 }
 
 -- where the turn of a net stops, the run does
-pub run_stops : {A : Type 0} (design : DesignModel) (flat : FlatModel) (net : ℕ) (lists : List (List Wire)) (mid : FlatModel) (fault : RouteFault A) → IsRunSoFar design flat net lists mid
-    → IsNetStop design mid net fault → IsRunStop design flat fault
+pub run_stops : {A : Type 0} (design : DesignModel) (flat : FlatModel) (net : ℕ) (lists : List (List Wire)) (mid : FlatModel) (fault : RouteFault A)
+    → IsRunSoFar design flat net lists mid → IsNetStop design mid net fault → IsRunStop design flat fault
 run_stops design flat net lists mid (NotClean faults) u stop = stop
 run_stops design flat net lists mid GridTooLarge u stop = stop
 run_stops design flat net lists mid (Unroutable n) u stop =
@@ -198,28 +192,31 @@ map_last f [] x = refl
 map_last f (y ∷ xs) x = ap (λ ys. f y ∷ ys) (map_last f xs x)
 
 -- the same of lists that hold their wires, and of a design that is the same
-pub underway_step : {V : Type 0} (wires_of : V → List Wire) (design d1 : DesignModel) (flat : FlatModel) (net : ℕ) (lists next : List V) (mid grown : FlatModel) (own : V) → d1 ≡ design
-    → IsRunSoFar design flat net (map wires_of lists) mid → NetRun d1 net mid (wires_of own) grown → ¬ IsOpenNet d1 grown net → next ≡ lists ++ own ∷ []
-    → IsRunSoFar design flat (net + 1) (map wires_of next) grown
+pub underway_step : {V : Type 0} (wires_of : V → List Wire) (design d1 : DesignModel) (flat : FlatModel) (net : ℕ) (lists next : List V)
+    (mid grown : FlatModel) (own : V) → d1 ≡ design → IsRunSoFar design flat net (map wires_of lists) mid → NetRun d1 net mid (wires_of own) grown
+    → ¬ IsOpenNet d1 grown net → next ≡ lists ++ own ∷ [] → IsRunSoFar design flat (net + 1) (map wires_of next) grown
 underway_step wires_of design d1 flat net lists next mid grown own same u net_run closed is =
     let then = underway_next design flat net (map wires_of lists) mid grown (wires_of own) u (subst (λ d. NetRun d net mid (wires_of own) grown) same net_run)
     (subst (λ d. ¬ IsOpenNet d grown net) same closed) in
     subst (λ ls. IsRunSoFar design flat (net + 1) ls grown) (sym (ap (map wires_of) is ∙ map_last wires_of lists own)) then
 
 -- behind the last net the run has come to its end
-pub underway_done : (design : DesignModel) (flat : FlatModel) (lists : List (List Wire)) (grown : FlatModel) → IsRunSoFar design flat (length design.nets) lists grown → IsDone design grown
+pub underway_done : (design : DesignModel) (flat : FlatModel) (lists : List (List Wire)) (grown : FlatModel)
+    → IsRunSoFar design flat (length design.nets) lists grown → IsDone design grown
 underway_done design flat lists grown u net has = u.joined net has.1.net has
 
 -- where the run stops the design is refused
-pub refused_then : {A : Type 0} (design : DesignModel) (flat : FlatModel) (fault : RouteFault A) → ComesToRun design flat → IsRunStop design flat fault → IsRouteRefusal design fault
+pub refused_then : {A : Type 0} (design : DesignModel) (flat : FlatModel) (fault : RouteFault A) → ComesToRun design flat
+    → IsRunStop design flat fault → IsRouteRefusal design fault
 refused_then design flat (NotClean faults) comes stop = absurd stop
 refused_then design flat GridTooLarge comes stop = absurd stop
 refused_then design flat (Unroutable n) comes stop = (flat, comes, stop)
 refused_then design flat TooMany comes stop = on_the_way comes stop
 refused_then design flat Memory comes stop = tt
 
-pub finished_underway : (design : DesignModel) (flat : FlatModel) (nets : ℕ) (lists : List (List Wire)) (grown : FlatModel) → nets ≡ length design.nets → ComesToRun design flat
-    → IsRunSoFar design flat nets lists grown → IsWithinLimits grown → IsFinishedRun design lists
+pub finished_underway : (design : DesignModel) (flat : FlatModel) (nets : ℕ) (lists : List (List Wire)) (grown : FlatModel)
+    → nets ≡ length design.nets → ComesToRun design flat → IsRunSoFar design flat nets lists grown → IsWithinLimits grown
+    → IsFinishedRun design lists
 finished_underway design flat nets lists grown count comes u within =
     let all = subst (λ n. IsRunSoFar design flat n lists grown) count u in record {
       flat = flat;

@@ -50,16 +50,17 @@ net_ends_as grid joined Meets Meets2 Far Far2 ends meets meets_back far are = re
 -- the near ends are of slots of the grid, and no nearer than is noted
 pub near_ends_within : (grid : GridModel) (joined : List Bool) (Meets : ℕ → Node → Type 0) (Far : ℕ → ℕ → Type 0) (ends : EndsModel)
     → AreNetEnds grid joined Meets Far ends → All (λ (end : EndSlot). end.slot < slot_total grid) ends.near
-near_ends_within grid joined Meets Far ends are = All-from_contains (λ (end : EndSlot). end.slot < slot_total grid) ends.near (λ end has. (are.near end has).within)
+near_ends_within grid joined Meets Far ends are =
+    All-from_contains (λ (end : EndSlot). end.slot < slot_total grid) ends.near (λ end has. (are.near end has).within)
 
 pub near_ends_far : (grid : GridModel) (joined : List Bool) (Meets : ℕ → Node → Type 0) (Far : ℕ → ℕ → Type 0) (ends : EndsModel)
     → AreNetEnds grid joined Meets Far ends → All (λ (end : EndSlot). Far end.least end.slot) ends.near
 near_ends_far grid joined Meets Far ends are = All-from_contains (λ (end : EndSlot). Far end.least end.slot) ends.near (λ end has. (are.near end has).least)
 
 -- where all ends of a list are kept
-pub ends_kept_all : (grid : GridModel) (flat : FlatModel) (net : ℕ) (joined : List Bool) (Meets : ℕ → Node → Type 0) (boxes : List SlotBox) (ends : List EndSlot)
-    (kept : EndsModel) → AreEndSlots grid (IsApart joined) Meets (IsFarSlot grid flat net boxes) ends → AreKept grid ends kept
-    → AreNetEnds grid joined Meets (IsFarSlot grid flat net boxes) kept
+pub ends_kept_all : (grid : GridModel) (flat : FlatModel) (net : ℕ) (joined : List Bool) (Meets : ℕ → Node → Type 0) (boxes : List SlotBox)
+    (ends : List EndSlot) (kept : EndsModel) → AreEndSlots grid (IsApart joined) Meets (IsFarSlot grid flat net boxes) ends
+    → AreKept grid ends kept → AreNetEnds grid joined Meets (IsFarSlot grid flat net boxes) kept
 ends_kept_all grid flat net joined Meets boxes ends kept are had = record {
   near = λ end has. are.each end (had.near end has);
   grouped = had.grouped;
@@ -280,9 +281,10 @@ module _ (grid : GridModel) (flat : FlatModel) (net : ℕ) (is_grid : IsDesignGr
               }
               | inr far_old ↦
                   let then = group_now come ends.far far groups_are far_old.group far_old.has in
+                  let is_in = in_new come ends.listed far_old.group then.group one_old.end then.from far_old.is_in in
                   record {
                     end = one_old.end;
-                    is = inr (record { group = then.group; has = then.has; is_in = in_new come ends.listed far_old.group then.group one_old.end then.from far_old.is_in });
+                    is = inr (record { group = then.group; has = then.has; is_in = is_in });
                     of_piece = one_old.of_piece;
                     of_slot = one_old.of_slot;
                   }

@@ -16,8 +16,8 @@ pub none_yet : (first : ℕ) (had : List ℕ) → had ≡ had ++ range_with_len 
 none_yet first had = let none : first - first ≡ 0 = omega arith in sym (ap (λ n. had ++ range_with_len first n) none ∙ append-nil had)
 
 -- one number more is noted
-pub numbers_next : (first number next : ℕ) (had numbers then : List ℕ) → first ≤ number → next ≡ number + 1 → numbers ≡ had ++ range_with_len first (number - first) → then ≡ numbers ++ number ∷ []
-    → then ≡ had ++ range_with_len first (next - first)
+pub numbers_next : (first number next : ℕ) (had numbers then : List ℕ) → first ≤ number → next ≡ number + 1
+    → numbers ≡ had ++ range_with_len first (number - first) → then ≡ numbers ++ number ∷ [] → then ≡ had ++ range_with_len first (next - first)
 numbers_next first number next had numbers then begun is are grown =
     let last : number ≡ first + (number - first) = omega (arith, begun) in
     let more : next - first ≡ (number - first) + 1 = omega (arith, begun, is) in

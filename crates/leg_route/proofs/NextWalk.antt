@@ -22,7 +22,8 @@ use Rattle.leg_route.specs.Steps.NetSlots.{IsNextAnswerAt, IsNearestAt}
 
 -- where a walk can't begin, there is none
 pub no_starts : (grid : GridModel) (flat : FlatModel) (net : ℕ) (starts ends : List ℕ)
-    → ((n : ℕ) → Contains starts n ↔ IsOneOf (IsNumberOf grid) (MeetsJoined flat net) n) → starts ≡ [] → (left_out : Bool) → IsNearestAt grid flat net ends left_out None
+    → ((n : ℕ) → Contains starts n ↔ IsOneOf (IsNumberOf grid) (MeetsJoined flat net) n) → starts ≡ [] → (left_out : Bool)
+    → IsNearestAt grid flat net ends left_out None
 no_starts grid flat net starts ends are none left_out closed a b nodes start is_end walk = Contains-nil a (subst (λ xs. Contains xs a) none ((are a).1 start))
 
 -- nor where it can't end

@@ -28,7 +28,8 @@ use Rattle.leg_route.proofs.GridFacts.{same_width, over_up, via_once}
 use Rattle.leg_route.proofs.StraightRuns.{points, beside_layer, straight_last, straight_ahead, straight_apart, straight_keeps, ahead_apart, in_line}
 
 -- the width of a routing layer is above 0 and even
-pub runs_width : (design : DesignModel) (number : ℕ) (direction : Direction) (width : ℤ) → IsSound design.library → Runs design.library number direction width → IsWidth width
+pub runs_width : (design : DesignModel) (number : ℕ) (direction : Direction) (width : ℤ) → IsSound design.library
+    → Runs design.library number direction width → IsWidth width
 runs_width design number direction width sound runs =
     let layer = All-contains IsSoundLayer design.library.layers runs.layer sound.layers (contains_at design.library.layers number runs.layer runs.there) in
     subst HasWidth runs.routes layer.width
@@ -151,7 +152,8 @@ module _ (run_of_clean : RunOfCleanWires) (design : DesignModel) (flat : FlatMod
   spelled_clean sound a nodes wires (through {b = b} {nodes = others} {wires = more_wires} via over rest) steps =
       All-cons Clean (ViaAt via a.at) more_wires (via_clean via a b over steps.0) (spelled_clean sound b others more_wires rest steps.1)
   spelled_clean sound a nodes wires (along {b = b} {nodes = others} {wire = wire} {wires = more_wires} side run on_layer straight ends line rest) steps =
-      let whole = whole_clean side on_layer a.layer line.direction line.width line.runs a b run sound refl straight (steps_first side a b run others straight steps) in
+      let first = steps_first side a b run others straight steps in
+      let whole = whole_clean side on_layer a.layer line.direction line.width line.runs a b run sound refl straight first in
       All-cons Clean wire more_wires (subst Clean (sym line.is) whole)
       (spelled_clean sound b others more_wires rest (steps_then side a b run others straight steps))
 

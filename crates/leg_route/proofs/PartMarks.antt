@@ -39,7 +39,8 @@ set_at : (marks : List Bool) (k : ℕ) → k < length marks → get_or marks k f
 set_at marks k low is = slice_get-get_or marks k false low ∙ ap Some is
 
 -- no piece comes
-pub marked_none : (before : List Bool) (count : ℕ) → length before ≤ count → HaveMarked before count [] (take count before ++ replicate (count - length before) false)
+pub marked_none : (before : List Bool) (count : ℕ) → length before ≤ count
+    → HaveMarked before count [] (take count before ++ replicate (count - length before) false)
 marked_none before count few =
     let rest = replicate (count - length before) false in
     let many : length rest ≡ count - length before = length-replicate (count - length before) false in
@@ -53,7 +54,8 @@ marked_none before count few =
               | inl early ↦ inl (set_at before k early (sym (get_or_append_left before rest false k early) ∙ there.1))
               | inr late ↦
                   let all = length-append before rest in
-                  let none : get_or rest (k - length before) false ≡ false = get_or-replicate (count - length before) (k - length before) false false (omega (arith, there.0, all, many, late)) in
+                  let none : get_or rest (k - length before) false ≡ false =
+                  get_or-replicate (count - length before) (k - length before) false false (omega (arith, there.0, all, many, late)) in
                   absurd (false≢true (sym none ∙ sym (get_or-append_right before rest (length before) k false refl late) ∙ there.1))
             ],
         λ is. elim is [
@@ -67,7 +69,8 @@ marked_none before count few =
     })
 
 -- one more comes
-pub marked_more : (before after : List Bool) (count : ℕ) (come : List ℕ) (piece : ℕ) → HaveMarked before count come after → piece < count → HaveMarked before count (come ++ piece ∷ []) (set after piece true)
+pub marked_more : (before after : List Bool) (count : ℕ) (come : List ℕ) (piece : ℕ) → HaveMarked before count come after → piece < count
+    → HaveMarked before count (come ++ piece ∷ []) (set after piece true)
 marked_more before after count come piece done low =
     let size : length (set after piece true) ≡ length after = length-set after piece true in
     let within : piece < length after = omega (arith, low, done.size) in
@@ -96,7 +99,8 @@ marked_more before after count come piece done low =
       ];
     }
 
-module _ (grid : GridModel) (flat : FlatModel) (net : ℕ) (part : PartModel) (come : List ℕ) (of_net : part.net ≡ net) (had : IsJoinedPart grid flat part) (have_come : HaveCome flat net part.joined come) where
+module _ (grid : GridModel) (flat : FlatModel) (net : ℕ) (part : PartModel) (come : List ℕ) (of_net : part.net ≡ net) (had : IsJoinedPart grid flat part)
+    (have_come : HaveCome flat net part.joined come) where
   pub come_within : (count : ℕ) → piece_count flat net ≡ count → All (λ piece. piece < count) come
   come_within count counted = All-from_contains (λ piece. piece < count) come (λ piece has. let is = have_come.are piece has in omega (arith, is.0, counted))
 
@@ -120,8 +124,10 @@ module _ (grid : GridModel) (flat : FlatModel) (net : ℕ) (part : PartModel) (c
     }
 
     -- what has come to the part with them
-    module _ (numbers : List ℕ) (numbers_are : AreNumbersOf flat.shapes net numbers) (joins : JoinsModel) (joins_net : joins.net ≡ net) (joins_are : AreJoinsOf flat joins) where
-      comes : (node : Node) → MeetsMarked flat.shapes after true numbers node → MeetsMarked flat.shapes part.joined true numbers node ⊎ MeetsPieces joins.metal come node
+    module _ (numbers : List ℕ) (numbers_are : AreNumbersOf flat.shapes net numbers) (joins : JoinsModel) (joins_net : joins.net ≡ net)
+        (joins_are : AreJoinsOf flat joins) where
+      comes : (node : Node) → MeetsMarked flat.shapes after true numbers node
+          → MeetsMarked flat.shapes part.joined true numbers node ⊎ MeetsPieces joins.metal come node
       comes node m = elim ((have.marked m.marked.number).0 m.marked.marked) [
         | inl was ↦
             inl
@@ -147,7 +153,8 @@ module _ (grid : GridModel) (flat : FlatModel) (net : ℕ) (part : PartModel) (c
               shape = piece;
               has =
                   joins_are.metal.all m.shape piece
-                  (m.number, slice_get_within flat.shapes m.number m.shape m.there, get_or_from_slice_get flat.shapes m.number m.shape m.shape m.there) (rw joins_net is);
+                  (m.number, slice_get_within flat.shapes m.number m.shape m.there, get_or_from_slice_get flat.shapes m.number m.shape m.shape m.there)
+                  (rw joins_net is);
               of_piece = came;
               lies = m.lies;
             })
@@ -170,7 +177,7 @@ module _ (grid : GridModel) (flat : FlatModel) (net : ℕ) (part : PartModel) (c
           }
 
       pub growing : ((k : ℕ) → length part.joined ≤ k → k < length after → get_or after k true ≡ true)
-          → IsGrowing grid flat numbers joins.metal come (record { net = part.net; joined = after; boxes = part.boxes; slots = part.slots; hulls = part.hulls; ends = part.ends })
+          → IsGrowing grid flat numbers joins.metal come (record part { joined = after })
       growing later = record {
         before = part.joined;
         had = rw of_net (part_had grid flat part net numbers of_net numbers_are had);
@@ -191,7 +198,9 @@ pub starts_grown : (grid : GridModel) (flat : FlatModel) (numbers : List ℕ) (m
 starts_grown grid flat numbers metal come part growing boxes slots got = record {
   are = λ n. (
     λ has. elim ((got.are n).0 has) [
-      | inl was ↦ one_as grid (MeetsMarked flat.shapes growing.before true numbers) (MeetsMarked flat.shapes part.joined true numbers) still n ((growing.had.starts.are n).0 was)
+      | inl was ↦
+          one_as grid (MeetsMarked flat.shapes growing.before true numbers) (MeetsMarked flat.shapes part.joined true numbers) still n
+          ((growing.had.starts.are n).0 was)
       | inr one ↦ one_as grid (MeetsPieces metal come) (MeetsMarked flat.shapes part.joined true numbers) growing.only n one
     ],
     λ one. (got.are n).1 (elim (growing.comes one.node one.holds) [
@@ -221,8 +230,8 @@ has_or_lacks xs k = by (list_any (eqb k) xs) refl where
   by false is = inr (λ has. false≢true (sym is ∙ list_any-from_Contains nat_eq_equiv k xs has))
 
 -- the pieces that are taken have come to the part
-module _ (grid : GridModel) (flat : FlatModel) (net : ℕ) (part : PartModel) (joins : JoinsModel) (come : List ℕ) (had : IsJoinedPart grid flat part) (joins_net : joins.net ≡ net)
-    (given : AreGivenTo part joins) (new : AreNewlyJoined flat joins come) where
+module _ (grid : GridModel) (flat : FlatModel) (net : ℕ) (part : PartModel) (joins : JoinsModel) (come : List ℕ) (had : IsJoinedPart grid flat part)
+    (joins_net : joins.net ≡ net) (given : AreGivenTo part joins) (new : AreNewlyJoined flat joins come) where
   given_marked : (then : List Bool) → (part.net ≡ net → then ≡ part.joined) → (k : ℕ) → Contains joins.given k → slice_get then k ≡ Some true
   given_marked then same k has =
       let is = given k has in
@@ -238,8 +247,8 @@ module _ (grid : GridModel) (flat : FlatModel) (net : ℕ) (part : PartModel) (j
   }
 
   -- and are given to it then
-  pub given_then : (marks : List Bool) (after : JoinsModel) (now : PartModel) → AreMarks (AreJoined flat net 0) (piece_count flat net) marks → now.net ≡ net → now.joined ≡ marks → HasGiven joins come after
-      → AreGivenTo now after
+  pub given_then : (marks : List Bool) (after : JoinsModel) (now : PartModel) → AreMarks (AreJoined flat net 0) (piece_count flat net) marks
+      → now.net ≡ net → now.joined ≡ marks → HasGiven joins come after → AreGivenTo now after
   given_then marks after now are now_net now_marks has k given_k =
       let of_net : after.net ≡ now.net = has.net ∙ joins_net ∙ sym now_net in
       let is : (k < piece_count flat net) × AreJoined flat net 0 k = elim (Contains-append_cases joins.given come k (rw has.given at given_k)) [
@@ -256,7 +265,8 @@ module _ (grid : GridModel) (flat : FlatModel) (net : ℕ) (part : PartModel) (j
       (of_net, rw now_marks (read ∙ ap Some ((are.each k (get_or marks k false) read).1 is.1)))
 
 -- what is kept of the net stays right
-pub joins_given : (flat : FlatModel) (before after : JoinsModel) (pieces : List ℕ) → AreJoinsOf flat before → HasGiven before pieces after → AreJoinsOf flat after
+pub joins_given : (flat : FlatModel) (before after : JoinsModel) (pieces : List ℕ) → AreJoinsOf flat before → HasGiven before pieces after
+    → AreJoinsOf flat after
 joins_given flat before after pieces are has = record {
   count = rw (has.sets, has.net) are.count;
   metal = rw (has.metal, has.net) are.metal;

@@ -14,7 +14,8 @@ use Rattle.leg_route_grid.specs.Steps.AccessTable.{AdmitsJust, IsAccessTable, Is
 use Rattle.leg_route_grid.specs.Steps.AccessToNet.{IsAdmittedAt, IsAdmittedThere, IsNodeAdmitted, IsStepAdmitted}
 use Rattle.leg_route_grid.proofs.SlotRanges.{below_total}
 use Rattle.leg_route_grid.proofs.OpenSteps.{one_number_beside}
-use Rattle.leg_route_grid.proofs.TurnedSteps.{along_east, along_north, along_west, along_south, open_across}
+use Rattle.leg_route_grid.proofs.StepsAlong.{along_east, along_north}
+use Rattle.leg_route_grid.proofs.TurnedSteps.{along_west, along_south, open_across}
 
 module _ (grid : GridModel) (flat : FlatModel) (slots : List SlotAccess) (told : IsAccessTable grid flat slots) (net : ℕ) where
   -- a part of each slot, which tells this of it
@@ -74,12 +75,12 @@ module _ (grid : GridModel) (is_grid : IsDesignGrid grid) (sound : IsSound grid.
       both_ways _ _ _ (there_is grid is_grid slots (λ slot. slot.along) net West n to beside)
       (both_ways _ _ _ (along_admitted grid flat slots told net to (there_within West beside)) (along_west grid is_grid sound flat net n to beside))
   step_admitted East beside =
-      both_ways _ _ _ (along_admitted grid flat slots told net n (here_within East beside)) (along_east grid is_grid flat net n to beside)
+      both_ways _ _ _ (along_admitted grid flat slots told net n (here_within East beside)) (along_east grid is_grid n to beside flat net)
   step_admitted South beside =
       both_ways _ _ _ (there_is grid is_grid slots (λ slot. slot.along) net South n to beside)
       (both_ways _ _ _ (along_admitted grid flat slots told net to (there_within South beside)) (along_south grid is_grid sound flat net n to beside))
   step_admitted North beside =
-      both_ways _ _ _ (along_admitted grid flat slots told net n (here_within North beside)) (along_north grid is_grid flat net n to beside)
+      both_ways _ _ _ (along_admitted grid flat slots told net n (here_within North beside)) (along_north grid is_grid n to beside flat net)
   step_admitted Below beside =
       both_ways _ _ _ (there_is grid is_grid slots (λ slot. slot.above) net Below n to beside)
       (both_ways _ _ _ (above_admitted grid flat slots told net to (there_within Below beside)) (open_across grid is_grid flat net n to Below sound beside))

@@ -1,8 +1,8 @@
 -- Steps come one nearer at most.
 use Rattle.std.proofs.Common.{◌≡◌, ℕ, ◌+◌, ◌*◌, ◌/◌, ◌%◌, ◌<◌, ◌≤◌, ◌⊎◌, inl, inr, List, [], ◌∷◌, ◌++◌, min, Contains, length, sym, ap, ◌∙◌, arith}
 use Rattle.std.proofs.Math.Nat.{mul-le-mul_left, mul-le-mul_right, min-le_left, min-le_right}
-use Rattle.std.proofs.lemmas.Nat.{div-mul-add}
-use Rattle.leg_lemmas.proofs.Contained.{Contains-nil, Contains-here, Contains-there, Contains-cons_cases}
+use Rattle.std.proofs.lemmas.Nat.{div-mul-add, mod-mul-add}
+use Rattle.leg_lemmas.proofs.Contents.{Contains-nil, Contains-here, Contains-there, Contains-cons_cases}
 use Rattle.leg_rules.specs.declared.side.Side.{Side}
 use Rattle.leg_route_search.specs.Steps.Side.{opposite}
 use Rattle.leg_rules.specs.declared.side.Side.TheVariants.{West, East, South, North, Below, Above}
@@ -22,18 +22,14 @@ pub record IsSlotOf (grid : GridModel) (n k j i : ℕ) : Type 0 where
   pub row : n / length grid.xs % length grid.ys ≡ j
   pub column : n % length grid.xs ≡ i
 
-rest_of : (size a i : ℕ) → i < size → (a * size + i) % size ≡ i
-rest_of size a i within = let q = div-mul-add a size i within in let e : (a * size + i) / size * size ≡ a * size = ap (λ (n : ℕ). n * size) q in
-    omega (arith, e)
-
 pub slot_is : (grid : GridModel) (n k j i : ℕ) → IsSlot grid n k j i → IsSlotOf grid n k j i
 slot_is grid n k j i slot =
     let lines : n / length grid.xs ≡ k * length grid.ys + j =
     ap (λ (m : ℕ). m / length grid.xs) slot.is ∙ div-mul-add (k * length grid.ys + j) (length grid.xs) i slot.column in
     record {
       layer = ap (λ (m : ℕ). m / length grid.ys) lines ∙ div-mul-add k (length grid.ys) j slot.row;
-      row = ap (λ (m : ℕ). m % length grid.ys) lines ∙ rest_of (length grid.ys) k j slot.row;
-      column = ap (λ (m : ℕ). m % length grid.xs) slot.is ∙ rest_of (length grid.xs) (k * length grid.ys + j) i slot.column;
+      row = ap (λ (m : ℕ). m % length grid.ys) lines ∙ mod-mul-add k (length grid.ys) j slot.row;
+      column = ap (λ (m : ℕ). m % length grid.xs) slot.is ∙ mod-mul-add (k * length grid.ys + j) (length grid.xs) i slot.column;
     }
 
 pub bound_is : (grid : GridModel) (boxes : List SlotBox) (n : ℕ) (s : Slot) → IsSlot grid n s.layer s.row s.column → bound_at grid boxes n ≡ nearest boxes s

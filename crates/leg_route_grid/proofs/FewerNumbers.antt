@@ -2,7 +2,7 @@
 use Rattle.std.proofs.Common.{◌≡◌, ℕ, ◌⊎◌, inl, inr, Bool, true, false, List, [], ◌∷◌, Contains, length, refl, sym, subst, arith}
 use Rattle.std.specs.List.{items_where_true}
 use Rattle.std.specs.List.Retain.{IsFiltered, ReturnsInTurn}
-use Rattle.leg_lemmas.proofs.Contained.{Contains-cons_cases, Contains-there}
+use Rattle.leg_lemmas.proofs.Contents.{Contains-cons_cases, Contains-there}
 use Rattle.leg_route_grid.specs.Steps.SlotRanges.{HaveGot, HaveDropped}
 
 module _ {X F : Type 0} (R : F → X → Bool → F → Type 0) (P : X → Type 0) (f : F)

@@ -1,6 +1,7 @@
 -- Nodes and the numbers of their slots.
 use Rattle.std.proofs.Common.{◌≡◌, ℕ, ◌+◌, ◌*◌, ◌<◌, ◌⊎◌, ◌↔◌, inl, inr, ℤ, ◌<ℤ◌, Bool, true, List, AllPairs, Contains, length, get_or, Some, slice_get, refl, sym, ap, ◌∙◌, arith}
 use Rattle.std.proofs.lemmas.Int.{ints}
+use Rattle.std.proofs.lemmas.Nat.{same_from_place}
 use Rattle.std.proofs.lemmas.Option.{same_Some, slice_get-get_or, slice_get_within, get_or_from_slice_get}
 use Rattle.std.proofs.lemmas.Bool.{cases_order}
 use Rattle.leg_lib_records.specs.declared.records.Direction.{Direction}
@@ -15,7 +16,6 @@ use Rattle.leg_rules.specs.Route.Tracks.{Runs, HasTrack, IsGridX, IsGridY}
 use Rattle.leg_rules.specs.Route.Nodes.{IsNode}
 use Rattle.leg_route_grid.specs.Steps.Grid.{GridModel, IsDesignGrid, IsSlot, LiesAt, IsNumberOf, axis_of, values_of}
 use Rattle.leg_route_grid.specs.Steps.TrackMarks.{AreTrackMarks}
-use Rattle.leg_route_grid.proofs.Slots.{one_rest}
 
 same_node : (a b : Node) → a.layer ≡ b.layer → a.at.x ≡ b.at.x → a.at.y ≡ b.at.y → a ≡ b
 same_node a b layer x y = λ i. record { layer = layer i; at = record { x = x i; y = y i } }
@@ -45,9 +45,9 @@ one_direction library n d e v w runs also =
 pub lies_at : (grid : GridModel) (n k j i : ℕ) (node : Node) → IsSlot grid n k j i → IsNumberOf grid n node → LiesAt grid k j i node
 lies_at grid n k j i node slot number =
     let lines =
-    one_rest (length grid.xs) (k * length grid.ys + j) (number.k * length grid.ys + number.j) i number.i slot.column number.slot.column
+    same_from_place (k * length grid.ys + j) i (number.k * length grid.ys + number.j) number.i (length grid.xs) slot.column number.slot.column
     (sym slot.is ∙ number.slot.is) in
-    let rows = one_rest (length grid.ys) k number.k j number.j slot.row number.slot.row lines.0 in
+    let rows = same_from_place k j number.k number.j (length grid.ys) slot.row number.slot.row lines.0 in
     rw (rows.0, rows.1, lines.1) number.lies
 
 -- in a slot lies one node

@@ -1,9 +1,10 @@
 -- Hulls of boxes, and what is passed over with them.
-use Rattle.std.proofs.Common.{◌≡◌, zero, suc, ℕ, ◌+◌, ◌-◌, ◌<◌, ◌≤◌, List, [], ◌∷◌, ◌++◌, All, min, length, get_or, drop, Some, slice_get, ◌⊎◌, inl, inr, sym, ap, subst, ◌∙◌, refl, arith}
+use Rattle.std.proofs.Common.{◌≡◌, zero, suc, ℕ, ◌+◌, ◌-◌, ◌<◌, ◌≤◌, List, [], ◌∷◌, ◌++◌, All, min, length, get_or, drop, Some, slice_get, inl, inr, sym, ap, subst, ◌∙◌, arith}
 use Rattle.std.proofs.lemmas.Bool.{cases_lt}
 use Rattle.std.proofs.lemmas.List.{drop_more}
 use Rattle.std.proofs.Math.Nat.{min-le_right}
-use Rattle.std.proofs.lemmas.Option.{same_Some, none-some, slice_get_within, slice_get-get_or}
+use Rattle.std.proofs.lemmas.Option.{slice_get_within, slice_get-get_or}
+use Rattle.leg_lemmas.proofs.Places.{in_first, last_or_before}
 use Rattle.leg_route_grid.specs.declared.slot.Slot.{Slot}
 use Rattle.leg_route_grid.specs.declared.slot_box.SlotBox.{SlotBox}
 use Rattle.leg_route_grid.specs.declared.hulls.Hull.{Hull}
@@ -34,24 +35,13 @@ covers_bound hull ends s covers =
     omega (arith, covers.low_column, covers.high_column) in
     omega (arith, l, r, c)
 
-push_cases : {X : Type 0} (xs : List X) (x : X) (k : ℕ) (y : X) → slice_get (xs ++ x ∷ []) k ≡ Some y → (slice_get xs k ≡ Some y) ⊎ ((k ≡ length xs) × (x ≡ y))
-push_cases [] x zero y is = inr (refl, same_Some x y is)
-push_cases [] x (suc k) y is = absurd (none-some y is)
-push_cases (z ∷ xs) x zero y is = inl is
-push_cases (z ∷ xs) x (suc k) y is = elim (push_cases xs x k y is) [ inl before ↦ inl before | inr last ↦ inr (ap suc last.0, last.1) ]
-
 -- one hull more
 pub hulls_push : (boxes : List SlotBox) (hulls : List Hull) (last : ℕ) (hull : Hull) → length hulls ≡ last → AreEachHull boxes hulls
     → IsHullAt boxes last hull → AreEachHull boxes (hulls ++ hull ∷ [])
-hulls_push boxes hulls last hull count each is k other there = elim (push_cases hulls hull k other there) [
+hulls_push boxes hulls last hull count each is k other there = elim (last_or_before hulls hull k other there) [
   | inl before ↦ each k other before
-  | inr new ↦ subst (λ (h : Hull). IsHullAt boxes k h) new.1 (subst (λ (n : ℕ). IsHullAt boxes n hull) (sym (new.0 ∙ count)) is)
+  | inr new ↦ subst (λ (h : Hull). IsHullAt boxes k h) (sym new.1) (subst (λ (n : ℕ). IsHullAt boxes n hull) (sym (new.0 ∙ count)) is)
 ]
-
-read_first : {X : Type 0} (xs ys : List X) (k : ℕ) (y : X) → k < length xs → slice_get (xs ++ ys) k ≡ Some y → slice_get xs k ≡ Some y
-read_first [] ys k y low is = absurd (omega (arith, low))
-read_first (x ∷ xs) ys zero y low is = is
-read_first (x ∷ xs) ys (suc k) y low is = read_first xs ys k y (omega (arith, low)) is
 
 -- hulls of the first boxes are hulls still when there are more
 pub hulls_stay : (boxes more : List SlotBox) (hulls : List Hull) → AreHulls boxes hulls → AreEachHull (boxes ++ more) hulls
@@ -62,7 +52,7 @@ hulls_stay boxes more hulls are k hull there =
     record {
       some = is.some;
       within = is.within;
-      covers = λ j ends read below above. is.covers j ends (read_first boxes more j ends (omega (arith, low, count, below)) read) below above;
+      covers = λ j ends read below above. is.covers j ends (sym (in_first boxes more j (omega (arith, low, count, below))) ∙ read) below above;
     }
 
 -- the hull of some boxes, and of those that end before them

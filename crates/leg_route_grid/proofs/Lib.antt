@@ -14,7 +14,7 @@ pub mod FirstVia
 pub mod LowestLayer
 pub mod NotedVias
 pub mod ViaSteps
-pub mod GridMade
+pub mod GridParts
 pub mod GridSlots
 pub mod NextWalks
 pub mod Squares
@@ -43,12 +43,12 @@ pub mod FarMetal
 pub mod FarSlots
 pub mod FarAccess
 pub mod SameShapes
-pub mod SlotsAdded
+pub mod SlotsInTurn
 pub mod MetalReach
 pub mod BareSlots
 pub mod TurnedSteps
 pub mod AccessSteps
-pub mod OneAdded
+pub mod OneMoreShape
 pub mod NoLoss
 pub mod NearLayers
 pub mod FewerNumbers

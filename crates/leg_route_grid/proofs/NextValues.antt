@@ -4,7 +4,7 @@ use Rattle.std.proofs.lemmas.Int.{ints}
 use Rattle.std.proofs.lemmas.Option.{slice_get-get_or, slice_get_within, get_or_from_slice_get, same_Some}
 use Rattle.std.proofs.lemmas.List.Elements.{All-contains}
 use Rattle.std.proofs.lemmas.Bool.{cases_order}
-use Rattle.leg_lemmas.proofs.Rising.{same_rising}
+use Rattle.leg_lemmas.proofs.RisingLists.{same_rising}
 
 abbrev Rising : List ℤ → Type 0
 Rising values = AllPairs (λ a b. a <ℤ b) values

@@ -1,14 +1,14 @@
 -- Walks over numbers, and over the nodes that have them.
-use Rattle.std.proofs.Common.{◌≡◌, ℕ, ◌≤◌, List, [], ◌∷◌, length, refl, arith}
+use Rattle.std.proofs.Common.{◌≡◌, ℕ, ◌≤◌, List, [], ◌∷◌, length, refl, sym, arith}
 use Rattle.std.specs.List.{AllZip}
+use Rattle.std.proofs.lemmas.Slice.Zip.{AllZip-long}
 use Rattle.leg_route_grid.specs.Steps.NodeNumbers.{IsOneOf, IsStepOf}
 use Rattle.leg_rules.specs.Route.Walk.{Walk, here, on, IsShortest, NoWalk}
 
-long_zip : {A B : Type 0} (R : A → B → Type 0) (xs : List A) (ys : List B) → AllZip R xs ys → length xs ≡ length ys
-long_zip R [] [] all = refl
-long_zip R [] (y ∷ ys) all = absurd all
-long_zip R (x ∷ xs) [] all = absurd all
-long_zip R (x ∷ xs) (y ∷ ys) all = omega (arith, long_zip R xs ys all.1)
+-- the first node of a walk is open
+pub walk_first : {Node : Type 0} {Open : Node → Type 0} {Step : Node → Node → Type 0} {a b : Node} {nodes : List Node} → Walk Open Step a nodes b → Open a
+walk_first (here is_open) = is_open
+walk_first (on is_open step rest) = is_open
 
 module _ {Node : Type 0} (Number : ℕ → Node → Type 0) (unique : (n : ℕ) (a b : Node) → Number n a → Number n b → a ≡ b) (Open : Node → Type 0)
     (Step : Node → Node → Type 0) where
@@ -61,10 +61,6 @@ module _ {Node : Type 0} (Number : ℕ → Node → Type 0) (unique : (n : ℕ) 
     pub long : length numbers ≡ length nodes
     pub walk : Walk OpenAt StepAt m numbers n
 
-  first_open : {a b : Node} {nodes : List Node} → Walk Open Step a nodes b → Open a
-  first_open (here is_open) = is_open
-  first_open (on is_open step rest) = is_open
-
   module _ (numbered : (a : Node) → Open a → (n : ℕ) × Number n a) where
     to_numbers : {a b : Node} {nodes : List Node} → Walk Open Step a nodes b → (m : ℕ) → Number m a → NumbersWalk m b nodes
     to_numbers {a} (here is_open) m m_is = record {
@@ -75,7 +71,7 @@ module _ {Node : Type 0} (Number : ℕ → Node → Type 0) (unique : (n : ℕ) 
       walk = here (record { node = a; is = m_is; holds = is_open });
     }
     to_numbers {a} (on {b = b} is_open step rest) m m_is =
-        let next = numbered b (first_open rest) in
+        let next = numbered b (walk_first rest) in
         let further = to_numbers rest next.0 next.1 in
         record {
           n = further.n;
@@ -91,7 +87,7 @@ module _ {Node : Type 0} (Number : ℕ → Node → Type 0) (unique : (n : ℕ) 
           → length numbers ≤ length others)
           → (a b : Node) (others : List Node) → Start a → End b → Walk Open Step a others b → length numbers ≤ length others
       none_shorter numbers least a b others start end walk =
-          let first = numbered a (first_open walk) in
+          let first = numbered a (walk_first walk) in
           let same = to_numbers walk first.0 first.1 in
           let less =
           least first.0 same.n same.numbers (record { node = a; is = first.1; holds = start }) (record { node = b; is = same.n_is; holds = end }) same.walk in
@@ -99,7 +95,7 @@ module _ {Node : Type 0} (Number : ℕ → Node → Type 0) (unique : (n : ℕ) 
 
       pub no_walk : NoWalk OpenAt StepAt (IsOneOf Number Start) (IsOneOf Number End) → NoWalk Open Step Start End
       no_walk none a b nodes start end walk =
-          let first = numbered a (first_open walk) in
+          let first = numbered a (walk_first walk) in
           let same = to_numbers walk first.0 first.1 in
           none first.0 same.n same.numbers (record { node = a; is = first.1; holds = start }) (record { node = b; is = same.n_is; holds = end }) same.walk
 
@@ -109,7 +105,7 @@ module _ {Node : Type 0} (Number : ℕ → Node → Type 0) (unique : (n : ℕ) 
           let walk = to_nodes is.walk in
           let from : is.start.node ≡ walk.from = unique _ is.start.node walk.from is.start.is walk.from_is in
           let to : is.is_end.node ≡ walk.to = unique _ is.is_end.node walk.to is.is_end.is walk.to_is in
-          let long : length numbers ≡ length walk.nodes = long_zip Number numbers walk.nodes walk.each in (
+          let long : length numbers ≡ length walk.nodes = sym (AllZip-long Number numbers walk.nodes walk.each) in (
             walk.nodes,
             walk.each,
             record {

@@ -3,7 +3,7 @@ use Rattle.std.proofs.Common.{◌≡◌, ℕ, suc, zero, ◌+◌, ◌<◌, ◌�
 use Rattle.std.proofs.lemmas.List.{take_more}
 use Rattle.std.proofs.lemmas.List.Elements.{All-nil, All-cons, All-head, All-tail, All-push, All-contains, Contains-get_or}
 use Rattle.leg_lemmas.proofs.Places.{get_first}
-use Rattle.leg_lemmas.proofs.Contained.{Contains-map}
+use Rattle.leg_lemmas.proofs.Contents.{Contains-map}
 use Rattle.leg_geom.specs.Plane.{PointModel, RectModel, HasPoint}
 use Rattle.leg_lib_records.specs.declared.records.Shape.{Shape}
 use Rattle.leg_lib_records.specs.Records.{ViaModel}

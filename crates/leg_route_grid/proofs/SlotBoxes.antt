@@ -2,7 +2,7 @@
 use Rattle.std.proofs.Common.{◌≡◌, ℕ, ◌<◌, ◌⊎◌, inl, inr, List, ◌++◌, Contains, sym, subst, ◌∙◌, arith}
 use Rattle.std.proofs.lemmas.Option.{slice_get_within}
 use Rattle.std.proofs.lemmas.List.Elements.{All-append, All-contains, Contains-append_cases, Contains-append_right}
-use Rattle.leg_lemmas.proofs.Contained.{All-from_contains}
+use Rattle.leg_lemmas.proofs.Contents.{All-from_contains}
 use Rattle.leg_geom.specs.Plane.{RectModel}
 use Rattle.leg_route_grid.specs.declared.slot.Slot.{Slot}
 use Rattle.leg_route_grid.specs.declared.slot_box.SlotBox.{SlotBox}

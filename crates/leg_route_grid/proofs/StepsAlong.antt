@@ -55,7 +55,7 @@ next_is grid n None None e o = λ m next. elim next [
 ]
 
 module _ (grid : GridModel) (is_grid : IsDesignGrid grid) (n next : ℕ) where
-  along_east : IsNeighbourAt grid East n next → (flat : FlatModel) (net : ℕ) → IsOpenAlong grid flat net n ↔ IsOpenStepAt grid flat net East n
+  pub along_east : IsNeighbourAt grid East n next → (flat : FlatModel) (net : ℕ) → IsOpenAlong grid flat net n ↔ IsOpenStepAt grid flat net East n
   along_east step flat net = (
     λ is_open. elim is_open [
       | inl east ↦ east
@@ -64,7 +64,7 @@ module _ (grid : GridModel) (is_grid : IsDesignGrid grid) (n next : ℕ) where
     λ east. inl east,
   )
 
-  along_north : IsNeighbourAt grid North n next → (flat : FlatModel) (net : ℕ) → IsOpenAlong grid flat net n ↔ IsOpenStepAt grid flat net North n
+  pub along_north : IsNeighbourAt grid North n next → (flat : FlatModel) (net : ℕ) → IsOpenAlong grid flat net n ↔ IsOpenStepAt grid flat net North n
   along_north step flat net = (
     λ is_open. elim is_open [
       | inl east ↦ absurd (not_both grid n east.a east.b step.a step.b east.a_is step.a_is east.beside step.step)

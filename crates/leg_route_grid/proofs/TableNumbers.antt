@@ -8,6 +8,7 @@ use Rattle.std.proofs.lemmas.Option.{slice_get_within}
 use Rattle.leg_lib_records.specs.Sound.{IsSound}
 use Rattle.leg_rules.specs.Metal.Flat.{FlatModel}
 use Rattle.leg_route_search.specs.Steps.SideSteps.{IsStep}
+use Rattle.leg_route_search.proofs.LastSteps.{end_open}
 use Rattle.leg_rules.specs.Route.Walk.{Walk, here, on, IsShortest, NoWalk}
 use Rattle.leg_rules.specs.declared.node.Node.{Node}
 use Rattle.leg_route_grid.specs.declared.slot_access.SlotAccess.{SlotAccess}
@@ -19,6 +20,7 @@ use Rattle.leg_route_grid.specs.Steps.WalkBounds.{IsNeighbourNear}
 use Rattle.leg_route_grid.specs.Steps.NodeNumbers.{IsOneOf, IsStepOf, IsNextWalkAt, HasNoWalkAt}
 use Rattle.leg_route_grid.specs.Steps.AccessTable.{IsAccessTable}
 use Rattle.leg_route_grid.specs.Steps.AccessToNet.{IsNodeAdmitted, IsStepAdmitted}
+use Rattle.leg_route_grid.proofs.NumberedWalks.{walk_first}
 use Rattle.leg_route_grid.proofs.Bounds.{beside_near}
 use Rattle.leg_route_grid.proofs.OpenSteps.{steps_have_sides}
 use Rattle.leg_route_grid.proofs.AccessSteps.{node_admitted, step_admitted}
@@ -37,16 +39,6 @@ module _ {Node : Type 0} (Open Other : Node → Type 0) (Step Further : Node →
   walk_as (here is_open) = here (opens _ is_open)
   walk_as (on is_open step rest) = on (opens _ is_open) (steps _ _ step) (walk_as rest)
 
--- the ends of a walk are open
-module _ {Node : Type 0} {Open : Node → Type 0} {Step : Node → Node → Type 0} where
-  pub walk_first : {a b : Node} {nodes : List Node} → Walk Open Step a nodes b → Open a
-  walk_first (here is_open) = is_open
-  walk_first (on is_open step rest) = is_open
-
-  pub walk_last : {a b : Node} {nodes : List Node} → Walk Open Step a nodes b → Open b
-  walk_last (here is_open) = is_open
-  walk_last (on is_open step rest) = walk_last rest
-
 -- a shortest walk by nodes and steps, and by open starts and ends, that are told otherwise
 module _ {Node : Type 0} (Open Other : Node → Type 0) (Step Further : Node → Node → Type 0) (Start End First Last : Node → Type 0)
     (opens : (a : Node) → Open a ↔ Other a)
@@ -62,17 +54,17 @@ module _ {Node : Type 0} (Open Other : Node → Type 0) (Step Further : Node →
     from = is.from;
     to = is.to;
     start = (starts is.from (walk_first is.walk)).0 is.start;
-    is_end = (ends is.to (walk_last is.walk)).0 is.is_end;
+    is_end = (ends is.to (end_open is.walk)).0 is.is_end;
     walk = forth is.walk;
     least = λ a b others start end walk.
         let same = back walk in
-        is.least a b others ((starts a (walk_first same)).1 start) ((ends b (walk_last same)).1 end) same;
+        is.least a b others ((starts a (walk_first same)).1 start) ((ends b (end_open same)).1 end) same;
   }
 
   pub none_as : NoWalk Open Step Start End → NoWalk Other Further First Last
   none_as none a b nodes start end walk =
       let same = back walk in
-      none a b nodes ((starts a (walk_first same)).1 start) ((ends b (walk_last same)).1 end) same
+      none a b nodes ((starts a (walk_first same)).1 start) ((ends b (end_open same)).1 end) same
 
 module _ (grid : GridModel) (origin around : List SlotBox) (flat : FlatModel) (slots : List SlotAccess) (net : ℕ) where
   abbrev pub Admitted : ℕ → Type 0

@@ -1,7 +1,6 @@
 -- Steps along a layer and up, told from either end.
 use Rattle.std.proofs.Common.{◌≡◌, ℕ, ◌+◌, ◌*◌, ◌↔◌, ◌⊎◌, inl, inr, ℤ, length, refl, sym, subst, arith}
 use Rattle.leg_geom.specs.Plane.{PointModel}
-use Rattle.leg_lib_records.specs.declared.records.Direction.TheVariants.{Horizontal, Vertical}
 use Rattle.leg_lib_records.specs.Sound.{IsSound, IsWidth}
 use Rattle.leg_design_records.specs.declared.records.Wire.{Wire}
 use Rattle.leg_design_records.specs.declared.records.Wire.TheVariants.{Segment, ViaAt}
@@ -9,12 +8,12 @@ use Rattle.leg_design_records.specs.Records.{DesignModel}
 use Rattle.leg_rules.specs.Metal.Outline.Outline.{Line}
 use Rattle.leg_rules.specs.Metal.Flat.{FlatModel}
 use Rattle.leg_rules.specs.declared.side.Side.{Side}
-use Rattle.leg_rules.specs.declared.side.Side.TheVariants.{West, East, South, North, Below}
+use Rattle.leg_rules.specs.declared.side.Side.TheVariants.{West, South, Below}
 use Rattle.leg_route_search.specs.Steps.Side.{opposite}
 use Rattle.leg_rules.specs.declared.node.Node.{Node}
 use Rattle.leg_route_grid.specs.declared.slot.Slot.{Slot}
 use Rattle.leg_rules.specs.Route.Tracks.{Runs}
-use Rattle.leg_rules.specs.Route.Neighbours.{IsEast, IsNorth, IsOver, IsInLine}
+use Rattle.leg_rules.specs.Route.Neighbours.{IsOver, IsInLine}
 use Rattle.leg_rules.specs.Route.StepWires.{half, StepAdds}
 use Rattle.leg_rules.specs.Route.OpenMetal.{IsOpenWire, IsOpenStep}
 use Rattle.leg_route_grid.specs.Steps.Grid.{GridModel, IsDesignGrid}
@@ -24,11 +23,11 @@ use Rattle.leg_route_grid.specs.Steps.AccessTable.{IsOpenAlong}
 use Rattle.leg_route_grid.specs.Steps.Stretches.{IsStretch}
 use Rattle.leg_route_grid.proofs.Squares.{open_is_clean, clean_is_open}
 use Rattle.leg_route_grid.proofs.Strips.{strip_of, points_forth, points_back}
-use Rattle.leg_route_grid.proofs.GridSlots.{the_node, one_direction}
 use Rattle.leg_route_grid.proofs.OpenNodes.{width_is}
 use Rattle.leg_route_grid.proofs.SlotSides.{beside_is}
 use Rattle.leg_route_grid.proofs.StepsAt.{ends_are_nodes}
 use Rattle.leg_route_grid.proofs.OpenSteps.{one_layer, open_at, stretch_east, stretch_north}
+use Rattle.leg_route_grid.proofs.StepsAlong.{along_east, along_north}
 use Rattle.leg_route_grid.proofs.Bounds.{turned_beside}
 
 -- how far the numbers of two slots are apart that lie beside one another
@@ -154,40 +153,15 @@ module _ (grid : GridModel) (is_grid : IsDesignGrid grid) (flat : FlatModel) (ne
         λ step. there.1 (step_turned grid.design flat net beside.a beside.b sound (here.0 step)),
       )
 
-  -- along a layer steps go one way
-  one_way : (a b c d : Node) → IsEast grid.design a b → IsNorth grid.design c d → a ≡ c → ⊥
-  one_way a b c d east north same =
-      apart (one_direction grid.design.library c.layer Horizontal Vertical east.width north.width (rw same at east.horizontal) north.vertical) where
-        apart : Horizontal ≡ Vertical → ⊥
-        apart e = cc
-
-  pub along_east : IsNeighbourAt grid East n m → IsOpenAlong grid flat net n ↔ IsOpenStepAt grid flat net East n
-  along_east beside = (
-    elim [
-      | inl east ↦ east
-      | inr north ↦ absurd (one_way beside.a beside.b north.a north.b beside.step north.beside (the_node grid n beside.a north.a beside.a_is north.a_is))
-    ],
-    inl,
-  )
-
-  pub along_north : IsNeighbourAt grid North n m → IsOpenAlong grid flat net n ↔ IsOpenStepAt grid flat net North n
-  along_north beside = (
-    elim [
-      | inl east ↦ absurd (one_way east.a east.b beside.a beside.b east.beside beside.step (the_node grid n east.a beside.a east.a_is beside.a_is))
-      | inr north ↦ north
-    ],
-    inr,
-  )
-
 module _ (grid : GridModel) (is_grid : IsDesignGrid grid) (sound : IsSound grid.design.library) (flat : FlatModel) (net n m : ℕ) where
   pub along_west : IsNeighbourAt grid West n m → IsOpenAlong grid flat net m ↔ IsOpenStepAt grid flat net West n
   along_west beside =
-      let east = along_east grid is_grid flat net m n (turned_beside grid West n m beside) in
+      let east = along_east grid is_grid m n (turned_beside grid West n m beside) flat net in
       let across = open_across grid is_grid flat net n m West sound beside in
       (λ along. across.0 (east.0 along), λ west. east.1 (across.1 west))
 
   pub along_south : IsNeighbourAt grid South n m → IsOpenAlong grid flat net m ↔ IsOpenStepAt grid flat net South n
   along_south beside =
-      let north = along_north grid is_grid flat net m n (turned_beside grid South n m beside) in
+      let north = along_north grid is_grid m n (turned_beside grid South n m beside) flat net in
       let across = open_across grid is_grid flat net n m South sound beside in
       (λ along. across.0 (north.0 along), λ south. north.1 (across.1 south))

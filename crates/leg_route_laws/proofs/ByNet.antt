@@ -6,7 +6,7 @@ use Rattle.std.proofs.lemmas.Option.{slice_get-get_or, same_Some}
 use Rattle.leg_lemmas.proofs.Places.{set_here, set_elsewhere}
 use Rattle.leg_design_records.specs.declared.records.Wire.{Wire}
 use Rattle.leg_route_laws.specs.Growth.{AddedWire, of_net, wires_added}
-use Rattle.leg_route_laws.specs.Finished.{AreByNet}
+use Rattle.leg_route_laws.specs.FinishedDesign.{AreByNet}
 use Rattle.leg_route_laws.proofs.Growth.{same_number, added_then, added_of_net, added_of_other}
 
 abbrev IsBelow : ℕ → AddedWire → Type 0

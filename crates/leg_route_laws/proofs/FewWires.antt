@@ -23,7 +23,7 @@ use Rattle.leg_rules.specs.declared.owner.Owner.TheVariants.{Net}
 use Rattle.leg_rules.specs.Metal.Nets.{terminals_of, number_of_special, regular_entry, entry_wires}
 use Rattle.leg_rules.specs.Metal.Metal.{Belonging, belonging, wire_outlines, via_outlines, wires_metal, nets_metal, special_metal, specials_metal, metal_parts, metal_of}
 use Rattle.leg_flat.proofs.Parts.{whole_length}
-use Rattle.leg_route_laws.specs.Finished.{finished}
+use Rattle.leg_route_laws.specs.FinishedDesign.{finished}
 
 abbrev pub GoodViasJoin : Type 0
 GoodViasJoin =

@@ -2,7 +2,7 @@
 use Rattle.std.proofs.Common.{◌≡◌, ℕ, suc, ◌+◌, List, [], ◌∷◌, ◌++◌, ◌⊎◌, inl, inr, Contains, length, slice_get, Option, None, Some, refl, sym, ap, subst}
 use Rattle.std.proofs.lemmas.List.Elements.{Contains-append_left, Contains-append_cases}
 use Rattle.leg_lemmas.proofs.Places.{comes_from}
-use Rattle.leg_lemmas.proofs.Contained.{Contains-nil}
+use Rattle.leg_lemmas.proofs.Contents.{Contains-nil}
 use Rattle.leg_geom.specs.declared.place.Place.{Place}
 use Rattle.leg_lib_records.specs.Measure.{ExtentModel}
 use Rattle.leg_lib_records.specs.Records as library
@@ -14,7 +14,7 @@ use Rattle.leg_rules.specs.declared.owner.Owner.TheVariants.{Net}
 use Rattle.leg_rules.specs.Metal.Nets.{terminals_of, regular_entry, entry_wires, number_of_special}
 use Rattle.leg_rules.specs.Metal.Metal.{OnLayer, Belonging, Metal, belonging, pins_metal, component_metal, components_metal, design_pins_metal, blockages_metal, wire_outlines, wires_metal, nets_metal, specials_metal, metal_of}
 use Rattle.leg_flat.proofs.Parts.{whole, by_part, whole_append}
-use Rattle.leg_route_laws.specs.Finished.{finished}
+use Rattle.leg_route_laws.specs.FinishedDesign.{finished}
 use Rattle.leg_route_laws.proofs.NetMetal.{IsNet}
 use Rattle.leg_route_laws.proofs.SameNets.{same_belonging}
 

@@ -5,8 +5,8 @@ use Rattle.std.proofs.lemmas.List.{length-append}
 use Rattle.std.proofs.lemmas.List.Elements.{Contains-append_left, Contains-append_right, Contains-append_cases}
 use Rattle.std.proofs.lemmas.Option.{slice_get_within, none-some}
 use Rattle.leg_lemmas.proofs.Places.{get_first, get_second, get_cases, contains_at, comes_from, InSecond}
-use Rattle.leg_lemmas.proofs.Contained.{All-from_contains}
-use Rattle.leg_lemmas.proofs.Rising.{AllPairs-append_by}
+use Rattle.leg_lemmas.proofs.Contents.{All-from_contains}
+use Rattle.leg_lemmas.proofs.RisingLists.{AllPairs-append_by}
 use Rattle.leg_lemmas.proofs.Ranges.{in_range, range_within, range_rises}
 use Rattle.leg_design_records.specs.declared.records.Wire.{Wire}
 use Rattle.leg_design_records.specs.Records.{DesignModel}

@@ -11,7 +11,7 @@ use Rattle.leg_rules.specs.Spacing.Violations.IsSpacingViolation.{short, too_nea
 use Rattle.leg_rules.specs.Joins.Violations.IsOpenViolation.{open_net}
 use Rattle.leg_route_laws.specs.Growth.{AddedWire}
 use Rattle.leg_route_laws.specs.CleanWire.{HasNoSpacingFault}
-use Rattle.leg_route_laws.specs.Finished.{finished, IsFinishedFrom}
+use Rattle.leg_route_laws.specs.FinishedDesign.{finished, IsFinishedFrom}
 use Rattle.leg_rules.specs.Violations.{IsViolationIn}
 use Rattle.leg_route_laws.specs.Violations.{HasShort, HasTooNear}
 use Rattle.leg_rules.specs.Joins.Violations.{IsOpenNet, IsOpenViolation}

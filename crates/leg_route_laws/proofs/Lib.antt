@@ -17,7 +17,7 @@ mod ByNet
 mod SameNets
 mod FixedMetal
 mod Moves
-mod JoinedMoved
+mod RenumberedPieces
 mod SameShapes
 mod NetMetal
 mod NetWires

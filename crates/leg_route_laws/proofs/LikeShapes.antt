@@ -4,7 +4,7 @@ use Rattle.std.proofs.lemmas.Bool.{cases_lt}
 use Rattle.std.proofs.lemmas.List.{length-append}
 use Rattle.std.proofs.lemmas.List.Elements.{Contains-append_left, Contains-append_right, Contains-append_cases}
 use Rattle.std.proofs.lemmas.Option.{slice_get_within, none-some}
-use Rattle.leg_lemmas.proofs.Contained.{Contains-map}
+use Rattle.leg_lemmas.proofs.Contents.{Contains-map}
 use Rattle.leg_lemmas.proofs.Places.{comes_from}
 use Rattle.leg_design_records.specs.declared.records.Wire as records
 use Rattle.leg_design_records.specs.Records.{DesignModel}
@@ -18,7 +18,7 @@ use Rattle.leg_rules.specs.Metal.Metal.{OnLayer, Belonging, Metal, metal_of, wir
 use Rattle.leg_rules.specs.Metal.Pieces.{piece_component, of_piece}
 use Rattle.leg_rules.specs.Metal.Flat.{FlatModel, IsShapeOf, pieces_with}
 use Rattle.leg_route_laws.specs.Growth.{AddedWire, wires_added, IsMetalAdded, HasGrown}
-use Rattle.leg_route_laws.specs.Finished.{finished, IsFinishedFrom}
+use Rattle.leg_route_laws.specs.FinishedDesign.{finished, IsFinishedFrom}
 use Rattle.leg_route_laws.proofs.Places.{has_like, is_like}
 use Rattle.leg_route_laws.proofs.PiecesWith.{same_terminals, same_wires}
 use Rattle.leg_route_laws.proofs.Growth.{has_grown}

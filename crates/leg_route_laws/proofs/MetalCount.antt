@@ -13,7 +13,7 @@ use Rattle.leg_rules.specs.Metal.Metal.{wire_outlines, wires_metal, nets_metal, 
 use Rattle.leg_rules.specs.Metal.Flat.{FlatModel, IsShapeOf, IsFlatOf}
 use Rattle.leg_flat.proofs.Parts.{whole, whole_length}
 use Rattle.leg_route_laws.specs.Growth.{AddedWire, Grows, wires_added, shapes_added}
-use Rattle.leg_route_laws.specs.Finished.{finished, AreByNet}
+use Rattle.leg_route_laws.specs.FinishedDesign.{finished, AreByNet}
 use Rattle.leg_route_laws.proofs.Growth.{same_number, metal_count, added_here, added_elsewhere, has_grown}
 use Rattle.leg_route_laws.proofs.SameNets.{same_outlines}
 use Rattle.leg_route_laws.proofs.FixedMetal.{fixed_metal, wire_parts, fixed_and_wires, same_fixed}

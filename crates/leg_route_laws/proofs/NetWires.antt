@@ -8,7 +8,7 @@ use Rattle.leg_design_records.specs.declared.records.Wire.{Wire}
 use Rattle.leg_design_records.specs.Records.{DesignModel, NetModel}
 use Rattle.leg_rules.specs.Metal.Nets.{regular_entry, special_entry, entry_wires, wires_of}
 use Rattle.leg_route_laws.specs.Growth.{AddedWire, wires_added}
-use Rattle.leg_route_laws.specs.Finished.{finished, AreByNet}
+use Rattle.leg_route_laws.specs.FinishedDesign.{finished, AreByNet}
 use Rattle.leg_route_laws.proofs.Growth.{added_elsewhere}
 use Rattle.leg_route_laws.proofs.SameNets.{entry_at, same_special}
 

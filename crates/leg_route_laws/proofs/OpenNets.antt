@@ -12,12 +12,12 @@ use Rattle.leg_rules.specs.Metal.Flat.{FlatModel, pieces_with}
 use Rattle.leg_wire.specs.PieceMarks.{AreMarks}
 use Rattle.leg_rules.specs.Joins.Touch.{piece_count, LiesIn, Touch, AreJoined}
 use Rattle.leg_route_laws.specs.Growth.{AddedWire, wires_added}
-use Rattle.leg_route_laws.specs.Finished.{finished, IsFinishedFrom}
+use Rattle.leg_route_laws.specs.FinishedDesign.{finished, IsFinishedFrom}
 use Rattle.leg_rules.specs.Joins.Violations.{IsOpenNet}
 use Rattle.leg_flat.proofs.LastPiece.{length_of_pieces}
 use Rattle.leg_route_laws.proofs.SameNets.{same_count, same_terminals}
 use Rattle.leg_route_laws.proofs.Moves.{one_target, one_source, some_target, some_source, source_within, target_within}
-use Rattle.leg_route_laws.proofs.JoinedMoved.{joined_moved}
+use Rattle.leg_route_laws.proofs.RenumberedPieces.{joined_moved}
 use Rattle.leg_route_laws.proofs.NetMetal.{MetalHasItsPiece, PieceHasItsMetal, pieces_are}
 use Rattle.leg_route_laws.proofs.NetWires.{wires_then, wires_before}
 use Rattle.leg_route_laws.proofs.FlatPieces.{pieces_at}

@@ -13,7 +13,7 @@ use Rattle.leg_rules.specs.Metal.Nets.{terminals_of, wires_of, pieces_of, regula
 use Rattle.leg_rules.specs.Metal.Metal.{OnLayer, wire_outlines}
 use Rattle.leg_rules.specs.Metal.Pieces.{IsOfTerminal, IsMetalOfPiece, piece_component}
 use Rattle.leg_route_laws.specs.Growth.{AddedWire, wires_added}
-use Rattle.leg_route_laws.specs.Finished.{finished, AreByNet}
+use Rattle.leg_route_laws.specs.FinishedDesign.{finished, AreByNet}
 use Rattle.leg_route_laws.proofs.PiecesWith.{terminal_at, wire_at, IsTerminalAt, IsWireAt, piece_cases}
 use Rattle.leg_route_laws.proofs.SameNets.{same_terminals, same_outlines}
 use Rattle.leg_route_laws.proofs.NetMetal.{pieces_are}

@@ -8,7 +8,7 @@ use Rattle.leg_geom.specs.Plane.{RectModel}
 use Rattle.leg_rules.specs.Placement.Box.{HasBox}
 use Rattle.leg_rules.specs.Placement.Violations.{IsPlacementViolation}
 use Rattle.leg_rules.specs.Placement.Violations.IsPlacementViolation.{unplaced, outside, off_site, overlap, blocked}
-use Rattle.leg_route_laws.specs.Finished.{finished}
+use Rattle.leg_route_laws.specs.FinishedDesign.{finished}
 
 module _ (design : DesignModel) (lists : List (List Wire)) where
   abbrev done : DesignModel

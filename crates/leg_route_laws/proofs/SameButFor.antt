@@ -5,7 +5,7 @@ use Rattle.leg_lib_records.specs.Scale.{OneForOne}
 use Rattle.leg_design_records.specs.declared.records.Wire.{Wire}
 use Rattle.leg_design_records.specs.MoreWires.{each_with, with_more_wires}
 use Rattle.leg_design_records.specs.Records.{DesignModel, NetModel}
-use Rattle.leg_route_laws.specs.Finished.{finished}
+use Rattle.leg_route_laws.specs.FinishedDesign.{finished}
 use Rattle.leg_rules.specs.Route.SameButForWires.{IsSameNetButForWires, IsSameButForWires}
 
 -- each entry is as it was, with wires behind its own

@@ -13,7 +13,7 @@ use Rattle.leg_design_records.proofs.EachWith.{each_with_length, each_with_map}
 use Rattle.leg_rules.specs.Metal.Nets.{number_of_special, special_entry, regular_entry, entry_terminals, terminals_of}
 use Rattle.leg_rules.specs.Metal.Owner.{listing_place, net_of, lone_owner, owner_of, place_among, piece_of}
 use Rattle.leg_rules.specs.Metal.Metal.{of_terminal, wire_outlines}
-use Rattle.leg_route_laws.specs.Finished.{finished}
+use Rattle.leg_route_laws.specs.FinishedDesign.{finished}
 
 abbrev wired : NetModel → List Wire → NetModel
 wired net wires = record net { wires = net.wires ++ wires }

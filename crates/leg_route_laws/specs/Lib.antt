@@ -1,5 +1,5 @@
 pub mod Growth
 pub mod CleanWire
 pub mod Lines
-pub mod Finished
+pub mod FinishedDesign
 pub mod Violations

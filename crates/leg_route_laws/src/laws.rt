@@ -25,7 +25,7 @@ ghost use Rattle.leg_rules.specs.Joins.Touch.{piece_count, AreJoined};
 ghost use Rattle.leg_route_laws.specs.Growth.{AddedWire, Grows, of_net, HasGrown};
 ghost use Rattle.leg_route_laws.specs.CleanWire.{HasNoSpacingFault, IsRectOf, IsCleanWire, HasCleanRect, LiesInClean};
 ghost use Rattle.leg_route_laws.specs.Lines.{EachStep, last_spot, AreInLine, line_outline};
-ghost use Rattle.leg_route_laws.specs.Finished.{finished, AreByNet, IsFinishedFrom};
+ghost use Rattle.leg_route_laws.specs.FinishedDesign.{finished, AreByNet, IsFinishedFrom};
 ghost use Rattle.leg_rules.specs.Route.StepWires.{square};
 ghost use Rattle.leg_rules.specs.Route.SameButForWires.{IsSameButForWires};
 ghost use Rattle.leg_rules.specs.Violations.{IsViolationIn};

@@ -17,18 +17,17 @@ module _ {Node : Type 0} {Open : Node → Type 0} {Step : Node → Node → Type
   bound_holds bound nearer at_end (here is_open) = omega arith
   bound_holds bound nearer at_end (on {a = a} {b = b} is_open step rest) = omega (arith, bound_holds bound nearer at_end rest, nearer a b step)
 
--- Nodes of all levels below d are followed, as far as the limit lets them. So a walk from a marked node to an end, within the
--- limit and below d, ends at a marked node.
-pub end_reached : {Open : ℕ → Type 0} {Step : ℕ → ℕ → Type 0} (bound : ℕ → ℕ) (limit d : ℕ) (marks : List Mark) → ((a b : ℕ) → Step a b → bound a ≤ bound b + 1)
-    → ((a b level : ℕ) → IsAt marks a level → level < d → Step a b → Open b → level + 1 + bound b ≤ limit → (j : ℕ) × IsAt marks b j × (j ≤ level + 1))
-    → {a b : ℕ} {nodes : List ℕ} (level : ℕ) → bound b ≡ 0 → IsAt marks a level → level + length nodes ≤ d → level + length nodes ≤ limit + 1
-    → Walk Open Step a nodes b
+-- Marked nodes are followed where by what is left over the next node an end may be reached below d. So a walk from a marked node to
+-- an end, which gets there below d, ends at a marked node.
+pub end_reached : {Open : ℕ → Type 0} {Step : ℕ → ℕ → Type 0} (bound : ℕ → ℕ) (d : ℕ) (marks : List Mark) → ((a b : ℕ) → Step a b → bound a ≤ bound b + 1)
+    → ((a b level : ℕ) → IsAt marks a level → Step a b → Open b → level + 1 + bound b < d → (j : ℕ) × IsAt marks b j × (j ≤ level + 1))
+    → {a b : ℕ} {nodes : List ℕ} (level : ℕ) → bound b ≡ 0 → IsAt marks a level → level + length nodes ≤ d → Walk Open Step a nodes b
     → (j : ℕ) × IsAt marks b j × (j + 1 ≤ level + length nodes)
-end_reached bound limit d marks nearer followed level at_end is_at short near (here is_open) = (level, is_at, omega arith)
-end_reached bound limit d marks nearer followed level at_end is_at short near (on {a = a} {b = b} {nodes = nodes} is_open step rest) =
+end_reached bound d marks nearer followed level at_end is_at short (here is_open) = (level, is_at, omega arith)
+end_reached bound d marks nearer followed level at_end is_at short (on {a = a} {b = b} {nodes = nodes} is_open step rest) =
     let left : bound b + 1 ≤ length nodes = bound_holds bound nearer at_end rest in
-    let next = followed a b level is_at (omega (arith, left)) step (walk_open rest) (omega (arith, left)) in
-    let found = end_reached bound limit d marks nearer followed next.0 at_end next.1 (omega (arith, next.2)) (omega (arith, next.2)) rest in
+    let next = followed a b level is_at step (walk_open rest) (omega (arith, left)) in
+    let found = end_reached bound d marks nearer followed next.0 at_end next.1 (omega (arith, next.2)) rest in
     (found.0, found.1, omega (arith, found.2, next.2))
 
 -- Each open node that a step leads to from a marked one is marked. So a walk from a marked node ends at a marked one.

@@ -128,8 +128,9 @@ module _ (Open : ℕ → Type 0) (Step : ℕ → ℕ → Type 0) (Start End : �
             let left_over : bound a + 1 ≤ length nodes = bound_holds bound nearer (at_end b stop) walk in
             let begun = u.begun a start (walk_open walk) (λ _. omega (arith, left_over, short, low)) in
             let found =
-            end_reached bound limit d marks nearer (λ x y level is below step is_open near. u.followed x y level is below step is_open (λ _. near))
-            0 (at_end b stop) begun (omega (arith, short)) (omega (arith, short, low)) walk in
+            end_reached bound d marks nearer
+            (λ x y level is step is_open near. u.followed x y level is (omega (arith, near)) step is_open (λ _. omega (arith, near, low)))
+            0 (at_end b stop) begun (omega (arith, short)) walk in
             absurd (u.no_end b found.0 found.1 (omega (arith, found.2, short)) stop)
       ];
     }

@@ -1,6 +1,7 @@
 -- Marks that spread: one node, one step after another, and all sides.
-use Rattle.std.proofs.Common.{◌≡◌, ℕ, ◌+◌, ◌<◌, ◌≤◌, Bool, false, List, [], ◌∷◌, ◌++◌, length, slice_set, slice_get, Contains, Some, ◌⊎◌, ◌↔◌, inl, inr, refl, ◌∙◌, subst, arith, length-append}
+use Rattle.std.proofs.Common.{◌≡◌, ℕ, ◌+◌, ◌≤◌, Bool, false, List, [], ◌∷◌, ◌++◌, length, slice_set, slice_get, Contains, Some, ◌⊎◌, ◌↔◌, inl, inr, refl, ◌∙◌, subst, arith, length-append}
 use Rattle.std.proofs.lemmas.List.Elements.{Contains-append_left, Contains-push, Contains-push_cases}
+use Rattle.std.proofs.lemmas.Option.{slice_get_within}
 use Rattle.std.proofs.Math.ListN.{length-set}
 use Rattle.leg_route_search.specs.declared.mark.Mark.{Mark}
 use Rattle.leg_route_search.specs.declared.mark.Mark.TheVariants.{Unseen, Shut, Reached, Far}
@@ -24,43 +25,52 @@ module _ (Open : ℕ → Type 0) (bound : ℕ → ℕ) (limit level : ℕ) where
     fewer = omega arith;
   }
 
+  -- a new mark says something of the node
+  new_seen : (Tried : ℕ → ℕ → Type 0) (next : List ℕ) (a : ℕ) (m : Mark) → IsNew Open Tried limit level next a m → is_unseen m ≡ false
+  new_seen Tried next a Unseen n = absurd n
+  new_seen Tried next a Shut n = refl
+  new_seen Tried next a (Reached k from) n = refl
+  new_seen Tried next a (Far steps) n = refl
+
   -- The node that was tried gets a mark.
   spread_marked : (Tried : ℕ → ℕ → Type 0) (marks : List Mark) (next next2 : List ℕ) (left : Bool) (to : ℕ) (v : Mark)
-      → slice_get marks to ≡ Some Unseen → to < length marks → is_unseen v ≡ false → IsNew Open Tried limit level next2 to v
+      → slice_get marks to ≡ Some Unseen → IsNew Open Tried limit level next2 to v
       → ((a b : ℕ) → Tried a b → b ≡ to) → ((a : ℕ) → Contains next a → Contains next2 a)
       → ((a : ℕ) → Contains next2 a → Contains next a ⊎ IsAt (slice_set marks to v) a level) → length next2 ≤ length next + 1
       → IsSpread Open Tried bound limit level marks next left (slice_set marks to v) next2 left
-  spread_marked Tried marks next next2 left to v unseen within seen is_new only kept more longer = record {
-    count = length-set marks to v;
-    kept = mark_kept marks to v unseen;
-    new = λ a m is. elim (mark_cases marks to v within a m is) [
-      | inl old ↦ inl old
-      | inr (a_is, m_is) ↦
-          let here : IsNew Open Tried limit level next2 a v = rw a_is is_new in
-          inr (subst (λ (x : Mark). IsNew Open Tried limit level next2 a x) m_is here)
-    ];
-    tried = λ a b t near. let b_is = only a b t in rw b_is (v, mark_here marks to v within seen);
-    left_kept = λ was. was;
-    left_low = λ was. inl was;
-    next_kept = kept;
-    next_more = more;
-    fewer = omega (arith, one_fewer marks to v unseen seen, longer);
-  }
+  spread_marked Tried marks next next2 left to v unseen is_new only kept more longer =
+      let within = slice_get_within marks to Unseen unseen in
+      let seen = new_seen Tried next2 to v is_new in record {
+        count = length-set marks to v;
+        kept = mark_kept marks to v unseen;
+        new = λ a m is. elim (mark_cases marks to v within a m is) [
+          | inl old ↦ inl old
+          | inr (a_is, m_is) ↦
+              let here : IsNew Open Tried limit level next2 a v = rw a_is is_new in
+              inr (subst (λ (x : Mark). IsNew Open Tried limit level next2 a x) m_is here)
+        ];
+        tried = λ a b t near. let b_is = only a b t in rw b_is (v, mark_here marks to v within seen);
+        left_kept = λ was. was;
+        left_low = λ was. inl was;
+        next_kept = kept;
+        next_more = more;
+        fewer = omega (arith, one_fewer marks to v unseen seen, longer);
+      }
 
   -- The node that was tried is entered, or shut.
   pub spread_entered : (Tried : ℕ → ℕ → Type 0) (from to : ℕ) (IsOpen : Type 0) (marks : List Mark) (next : List ℕ) (marks2 : List Mark) (next2 : List ℕ)
       (left : Bool)
-      → slice_get marks to ≡ Some Unseen → to < length marks → level ≤ limit → Tried from to → ((a b : ℕ) → Tried a b → b ≡ to) → (IsOpen ↔ Open to)
+      → slice_get marks to ≡ Some Unseen → level ≤ limit → Tried from to → ((a b : ℕ) → Tried a b → b ≡ to) → (IsOpen ↔ Open to)
       → IsEntered IsOpen to (Reached level from) marks next marks2 next2 → IsSpread Open Tried bound limit level marks next left marks2 next2 left
-  spread_entered Tried from to IsOpen marks next marks2 next2 left unseen within low was_tried only asked (inl (closed, marks_is, next_is)) =
+  spread_entered Tried from to IsOpen marks next marks2 next2 left unseen low was_tried only asked (inl (closed, marks_is, next_is)) =
       rw (marks_is, next_is)
-      (spread_marked Tried marks next next left to Shut unseen within refl (λ is_open. closed (asked.1 is_open)) only (λ a there. there) (λ a there. inl there)
+      (spread_marked Tried marks next next left to Shut unseen (λ is_open. closed (asked.1 is_open)) only (λ a there. there) (λ a there. inl there)
       (omega arith))
-  spread_entered Tried from to IsOpen marks next marks2 next2 left unseen within low was_tried only asked (inr (is_open, marks_is, next_is)) =
+  spread_entered Tried from to IsOpen marks next marks2 next2 left unseen low was_tried only asked (inr (is_open, marks_is, next_is)) =
       let mark : Mark = Reached level from in
-      let here = mark_here marks to mark within refl in
+      let here = mark_here marks to mark (slice_get_within marks to Unseen unseen) refl in
       rw (marks_is, next_is)
-      (spread_marked Tried marks next (next ++ to ∷ []) left to mark unseen within refl (refl, low, asked.0 is_open, was_tried, Contains-push next to) only
+      (spread_marked Tried marks next (next ++ to ∷ []) left to mark unseen (refl, low, asked.0 is_open, was_tried, Contains-push next to) only
       (λ a there. Contains-append_left next (to ∷ []) a there)
       (λ a there. elim (Contains-push_cases next to a there) [ inl old ↦ inl old | inr same ↦ inr (from, rw (← same) here) ])
       (omega (arith, length-append next (to ∷ []))))

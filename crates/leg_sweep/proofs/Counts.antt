@@ -3,7 +3,7 @@ use Rattle.std.proofs.Common.{◌≡◌, ℕ, ◌+◌, ◌*◌, ◌≤◌, Bool,
 use Rattle.std.proofs.lemmas.Bool.{cases_Bool}
 use Rattle.std.proofs.lemmas.List.Sums.{count_by-le-length, sum_by-cons, sum_by_push, sum_by-le-sum_by}
 use Rattle.std.proofs.lemmas.List.Sorted.{sum_by-IsPermutation}
-use Rattle.leg_lemmas.proofs.Contained.{Contains-here, Contains-there}
+use Rattle.leg_lemmas.proofs.Contents.{Contains-here, Contains-there}
 use Rattle.leg_sweep.specs.Counts.{count_pairs}
 
 -- sums of equal terms are equal

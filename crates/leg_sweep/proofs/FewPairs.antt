@@ -5,7 +5,7 @@ use Rattle.std.proofs.lemmas.Bool.{cases_lt}
 use Rattle.std.proofs.lemmas.List.{length-append, take_more}
 use Rattle.std.proofs.lemmas.List.Elements.{All-nil, All-append, All-weaker, Contains-append_left, Contains-append_right}
 use Rattle.std.proofs.lemmas.Option.{slice_get_cases, slice_get_within}
-use Rattle.leg_lemmas.proofs.Rising.{AllPairs-nil, AllPairs-append_by}
+use Rattle.leg_lemmas.proofs.RisingLists.{AllPairs-nil, AllPairs-append_by}
 use Rattle.leg_lemmas.proofs.Ranges.{in_range, range_within}
 use Rattle.leg_sweep.specs.Pairs.{TakesAll, TookPairs}
 use Rattle.leg_geom.specs.Pairs.{IsPair}

@@ -6,8 +6,8 @@ use Rattle.std.proofs.lemmas.Bool.{cases_lt, cases_eq, leb-true, le-leb, and_par
 use Rattle.std.proofs.lemmas.List.{length-append, length-map, length-take-le}
 use Rattle.std.proofs.lemmas.List.Elements.{All-nil}
 use Rattle.std.proofs.lemmas.Option.{slice_get-map, slice_get_within, get_or_from_slice_get}
-use Rattle.leg_lemmas.proofs.Contained.{Contains-nil, All-from_contains}
-use Rattle.leg_lemmas.proofs.Rising.{AllPairs-nil}
+use Rattle.leg_lemmas.proofs.Contents.{Contains-nil, All-from_contains}
+use Rattle.leg_lemmas.proofs.RisingLists.{AllPairs-nil}
 use Rattle.leg_geom.specs.Plane.{RectModel}
 use Rattle.leg_geom.specs.Gap.{x_gap}
 use Rattle.leg_sweep.specs.declared.band.BandRange.{BandRange}

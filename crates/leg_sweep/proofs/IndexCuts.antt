@@ -4,7 +4,7 @@ use Rattle.std.proofs.lemmas.Bool.{cases_lt}
 use Rattle.std.proofs.lemmas.List.{take-append-le, take-take, take_all, length-take-le, get_or-take}
 use Rattle.std.proofs.lemmas.List.Concat.{flat_map-append}
 use Rattle.std.proofs.lemmas.List.Elements.{All-nil, All-cons, All-append, All-weaker, All-from_get_or, Contains-append_left, Contains-append_right}
-use Rattle.leg_lemmas.proofs.Rising.{AllPairs-append}
+use Rattle.leg_lemmas.proofs.RisingLists.{AllPairs-append}
 use Rattle.leg_geom.specs.Plane.{RectModel, IsRect}
 use Rattle.leg_sweep.specs.declared.bin_index.Cut.{Cut}
 use Rattle.leg_sweep.specs.declared.bounds.Bounds.{Bounds}

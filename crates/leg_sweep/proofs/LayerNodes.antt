@@ -4,7 +4,7 @@ use Rattle.std.specs.List.{filter, range_with_len}
 use Rattle.std.proofs.lemmas.Bool.{cases_eq, eq-eqb, ne_eqb}
 use Rattle.std.proofs.lemmas.List.{append-nil, length-map, length-set, length-replicate, length_push, get_or-map, get_or-set_same, get_or-set_other, get_or_push, get_or_append_left, map-append}
 use Rattle.std.proofs.lemmas.List.Elements.{filter-append}
-use Rattle.leg_lemmas.proofs.Contained.{All-from_contains, Contains-from_filter}
+use Rattle.leg_lemmas.proofs.Contents.{All-from_contains, Contains-from_filter}
 use Rattle.leg_lemmas.proofs.Ranges.{range_more}
 use Rattle.leg_geom.specs.Plane.{RectModel}
 use Rattle.leg_sweep.specs.declared.node.Node.{Node}

@@ -10,8 +10,8 @@ use Rattle.std.proofs.lemmas.List.Kept.{AllPairs-filter}
 use Rattle.std.proofs.lemmas.List.Sums.{length-filter, sum_by-cons, sum_by-set, sum_by-append}
 use Rattle.std.proofs.lemmas.Map.Keys.{IsDistinct-from_apart}
 use Rattle.std.proofs.lemmas.Map.Made.{is_member-Decides, length-le_from_is_member}
-use Rattle.leg_lemmas.proofs.Contained.{All-from_contains, Contains-filter, Contains-from_filter}
-use Rattle.leg_lemmas.proofs.Rising.{AllPairs-append_by}
+use Rattle.leg_lemmas.proofs.Contents.{All-from_contains, Contains-filter, Contains-from_filter}
+use Rattle.leg_lemmas.proofs.RisingLists.{AllPairs-append_by}
 use Rattle.leg_sweep.specs.Steps.Bands.{Waiting, empty_band, waiting_at, after_begin, after_pass, met, waiting_count, AreEmpty, AreVisited}
 use Rattle.leg_sweep.proofs.SweepSoFar.{VisitedBy, AreMet}
 

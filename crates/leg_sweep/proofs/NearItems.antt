@@ -13,7 +13,7 @@ use Rattle.std.proofs.lemmas.List.Sums.{sum_by_more, sum_by_push}
 use Rattle.std.proofs.lemmas.Map.Keys.{IsDistinct-from_apart, apart_from_distinct, IsDistinct-IsPermutation}
 use Rattle.std.proofs.lemmas.Option.{slice_get-map, slice_get_cases, slice_get_within, get_or_from_slice_get, same_Some}
 use Rattle.leg_lemmas.proofs.Places.{contains_at, get_or_mapped}
-use Rattle.leg_lemmas.proofs.Contained.{All-from_contains, Contains-filter, Contains-from_filter}
+use Rattle.leg_lemmas.proofs.Contents.{All-from_contains, Contains-filter, Contains-from_filter}
 use Rattle.leg_lemmas.proofs.Ranges.{range_more, range_rises}
 use Rattle.leg_geom.specs.Plane.{RectModel, IsRect}
 use Rattle.leg_geom.specs.Gap.{x_gap, y_gap}

@@ -8,7 +8,7 @@ use Rattle.std.proofs.lemmas.Option.{slice_get_past}
 use Rattle.std.proofs.lemmas.List.{take-append-le}
 use Rattle.std.proofs.lemmas.List.Elements.{All-head, All-tail, All-drop, All-weaker, filter-append, filter_passes}
 use Rattle.leg_lemmas.proofs.Integers.{le_test}
-use Rattle.leg_lemmas.proofs.Contained.{Contains-filter}
+use Rattle.leg_lemmas.proofs.Contents.{Contains-filter}
 use Rattle.leg_geom.specs.Plane.{RectModel, IsRect}
 use Rattle.leg_geom.specs.Gap.{gap_between, x_gap, y_gap}
 use Rattle.leg_sweep.specs.declared.bounds.Bounds.{Bounds}

@@ -7,7 +7,7 @@ use Rattle.std.proofs.lemmas.List.{drop_at, set_at, length-map, get_or-map}
 use Rattle.std.proofs.lemmas.List.Concat.{flat_map-append}
 use Rattle.std.proofs.lemmas.List.Elements.{All-nil, All-cons, All-append, All-take, All-weaker}
 use Rattle.std.proofs.lemmas.List.Sorted.{IsPermutation-map, Contains-permutation}
-use Rattle.leg_lemmas.proofs.Contained.{All-from_contains}
+use Rattle.leg_lemmas.proofs.Contents.{All-from_contains}
 use Rattle.leg_lemmas.proofs.Ranges.{in_range, range_within}
 use Rattle.leg_geom.specs.Plane.{RectModel}
 use Rattle.leg_sweep.specs.declared.bounds.Bounds.{Bounds}

@@ -6,8 +6,8 @@ use Rattle.std.proofs.lemmas.List.Elements.{All-nil, All-cons, All-append, All-m
 use Rattle.std.proofs.lemmas.List.Kept.{AllPairs-cons}
 use Rattle.std.proofs.lemmas.List.Sums.{sum_by-cons}
 use Rattle.std.proofs.lemmas.Option.{same_Some, none-some}
-use Rattle.leg_lemmas.proofs.Contained.{Contains-here, Contains-there, Contains-map}
-use Rattle.leg_lemmas.proofs.Rising.{AllPairs-nil, AllPairs-append_by, AllPairs-map}
+use Rattle.leg_lemmas.proofs.Contents.{Contains-here, Contains-there, Contains-map}
+use Rattle.leg_lemmas.proofs.RisingLists.{AllPairs-nil, AllPairs-append_by, AllPairs-map}
 use Rattle.leg_sweep.specs.Pairs.{Before, ArePairs}
 use Rattle.leg_geom.specs.Pairs.{IsPair}
 use Rattle.leg_sweep.specs.Counts.{count_pairs}

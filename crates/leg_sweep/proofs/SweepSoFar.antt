@@ -5,8 +5,8 @@ use Rattle.std.proofs.lemmas.List.{take_more, get_or_default}
 use Rattle.std.proofs.lemmas.List.Elements.{All-append, All-weaker, Contains-append_left, Contains-append_right, Contains-push, Contains-push_cases}
 use Rattle.std.proofs.lemmas.List.Kept.{AllPairs-filter}
 use Rattle.std.proofs.lemmas.List.Quantifiers.{all_pairs_push}
-use Rattle.leg_lemmas.proofs.Rising.{AllPairs-append_by}
-use Rattle.leg_lemmas.proofs.Contained.{Contains-filter, Contains-from_filter}
+use Rattle.leg_lemmas.proofs.RisingLists.{AllPairs-append_by}
+use Rattle.leg_lemmas.proofs.Contents.{Contains-filter, Contains-from_filter}
 use Rattle.leg_sweep.specs.Steps.Sweep.{ordered, AreNewPairs}
 use Rattle.leg_sweep.proofs.Progress.{place_in_front}
 use Rattle.leg_sweep.proofs.Turns.{ordered_below, ordered_above}

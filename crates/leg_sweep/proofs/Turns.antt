@@ -5,8 +5,8 @@ use Rattle.std.proofs.lemmas.List.{append-nil, get_or-map, length-append, length
 use Rattle.std.proofs.lemmas.List.Elements.{filter_more, All-nil, All-push, All-append, All-weaker, Contains-append_left, Contains-append_right, Contains-append_cases, Contains-push, Contains-push_cases}
 use Rattle.std.proofs.lemmas.List.Quantifiers.{all_pairs_push}
 use Rattle.std.proofs.lemmas.Option.{same_Some}
-use Rattle.leg_lemmas.proofs.Contained.{Contains-nil}
-use Rattle.leg_lemmas.proofs.Rising.{AllPairs-nil, AllPairs-append_by}
+use Rattle.leg_lemmas.proofs.Contents.{Contains-nil}
+use Rattle.leg_lemmas.proofs.RisingLists.{AllPairs-nil, AllPairs-append_by}
 use Rattle.leg_geom.specs.Pairs.{IsPair}
 use Rattle.leg_geom.specs.Plane.{RectModel}
 use Rattle.leg_sweep.specs.Steps.Sweep.{unit_square, rect_numbered, test_at, ordered, AreNewPairs}

@@ -1,7 +1,7 @@
 -- The order of pairs, and that a rule's pairs are one list.
 use Rattle.std.proofs.Common.{◌≡◌, ℕ, List, refl, arith}
 use Rattle.std.proofs.lemmas.List.Elements.{All-contains}
-use Rattle.leg_lemmas.proofs.Rising.{same_rising}
+use Rattle.leg_lemmas.proofs.RisingLists.{same_rising}
 use Rattle.leg_sweep.specs.Pairs.{Before, ArePairs}
 use Rattle.leg_geom.specs.Pairs.{IsPair}
 

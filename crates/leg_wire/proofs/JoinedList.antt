@@ -10,7 +10,7 @@ use Rattle.std.proofs.lemmas.Map.Steps.{le-length_from_below, length-le_from_dis
 use Rattle.std.proofs.lemmas.Map.Views.{Contains-from_any, list_any-from_Contains}
 use Rattle.std.proofs.lemmas.Option.{same_Some, slice_get_within}
 use Rattle.leg_sweep.proofs.Lists.{All-from_contains, Contains-nil}
-use Rattle.leg_lemmas.proofs.Rising.{AllPairs-append}
+use Rattle.leg_lemmas.proofs.RisingLists.{AllPairs-append}
 use Rattle.leg_design_records.specs.Records.{DesignModel}
 use Rattle.leg_rules.specs.Metal.Flat.{FlatModel}
 use Rattle.leg_rules.specs.Joins.Touch.{piece_count, AreJoined}

@@ -8,7 +8,7 @@ mod PairsInOrder
 -- Disjoint sets
 mod SetRoots
 mod WayUp
-mod SetsUnited
+mod SetUnions
 mod MergedLists
 -- Metal that may lie somewhere
 mod CleanMetal
@@ -22,8 +22,8 @@ mod PiecesTouch
 -- Pieces that are joined
 mod JoinedLaws
 mod Touches
-mod SetsTaken
-mod SomeJoined
+mod SetsOfPairs
+mod SomeMetal
 mod StandIns
 mod NewPairs
 mod PieceOrder

@@ -5,7 +5,7 @@ use Rattle.std.proofs.lemmas.List.{append-nil, drop_all, take_all, length-set, l
 use Rattle.std.proofs.lemmas.List.Elements.{All-contains, Contains-push, Contains-push_cases, Contains-append_left, Contains-append_right, Contains-append_cases}
 use Rattle.std.proofs.lemmas.Option.{same_Some, slice_get_within, slice_get-get_or, slice_get_read, get_or_from_slice_get}
 use Rattle.leg_sweep.proofs.Lists.{All-from_contains, AllPairs-nil, Contains-nil}
-use Rattle.leg_lemmas.proofs.Rising.{AllPairs-append}
+use Rattle.leg_lemmas.proofs.RisingLists.{AllPairs-append}
 use Rattle.leg_wire.specs.Steps.Kinds.{AreMembers}
 use Rattle.leg_wire.specs.Steps.NumberSets.{IsMerged, AreTogether, AreGroups, HasGrown, IsOneList, AreListsMerged}
 use Rattle.leg_wire.specs.Steps.NumberSets.IsOneList.{behind, before}

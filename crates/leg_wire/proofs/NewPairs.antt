@@ -16,7 +16,7 @@ use Rattle.leg_wire.specs.declared.piece_shape.PieceShape.{PieceShape}
 use Rattle.leg_wire.specs.Steps.MeetingRule.{DoMeet, DoMeet-symmetric, DoMeet-near}
 use Rattle.leg_wire.specs.Steps.JoinSteps.{JoinState, IsJoinStep, TakesPair}
 use Rattle.leg_wire.specs.Steps.Joins.{first_rects, TakesNew}
-use Rattle.leg_wire.proofs.SetsTaken.{take_step}
+use Rattle.leg_wire.proofs.SetsOfPairs.{take_step}
 
 -- one more of the first rectangles
 pub rects_more : (shapes : List PieceShape) (n : ℕ) (shape : PieceShape) → n < length shapes → shape ≡ get_or shapes n shape

@@ -19,10 +19,10 @@ use Rattle.leg_wire.specs.Steps.SharedPoints.{first_seen}
 use Rattle.leg_wire.specs.Steps.JoinSteps.{AreSetsOf, HavePlaces, AreKept}
 use Rattle.leg_wire.specs.Joins.{metal_of_piece}
 use Rattle.leg_wire.specs.Steps.Joins.{first_rects, HasOneNumberMore, JoinsNew, IsKeptSet}
-use Rattle.leg_wire.proofs.SetsUnited.{AreTogether-itself, AreTogether-onward}
+use Rattle.leg_wire.proofs.SetUnions.{AreTogether-itself, AreTogether-onward}
 use Rattle.leg_wire.proofs.PiecesTouch.{IsDone, IsDone-back, AreSoFar, AreDone, touch_together}
-use Rattle.leg_wire.proofs.SetsTaken.{taken_so_far, taken_keeps}
-use Rattle.leg_wire.proofs.SomeJoined.{joined_more}
+use Rattle.leg_wire.proofs.SetsOfPairs.{taken_so_far, taken_keeps}
+use Rattle.leg_wire.proofs.SomeMetal.{joined_more}
 use Rattle.leg_wire.proofs.NewPairs.{all_rects, rects_stay}
 use Rattle.leg_wire.proofs.PieceOrder.{in_order_more}
 

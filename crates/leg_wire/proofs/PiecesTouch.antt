@@ -19,7 +19,7 @@ use Rattle.leg_wire.specs.Steps.JoinSteps.{AnswersTouch, IsJoinStep}
 use Rattle.leg_wire.specs.Steps.JoinSteps.AnswersTouch.{share_two, share_none, share_one}
 use Rattle.leg_wire.specs.Steps.JoinSteps.IsJoinStep.{were_together, are_united, stay_apart}
 use Rattle.leg_wire.proofs.JoinedLaws.{Joined-onward}
-use Rattle.leg_wire.proofs.SetsUnited.{AreTogether-itself, AreTogether-back, AreTogether-onward}
+use Rattle.leg_wire.proofs.SetUnions.{AreTogether-itself, AreTogether-back, AreTogether-onward}
 
 -- each point of both rectangles is the first that was seen for their pieces, or these are together
 abbrev pub IsDone : List ℕ → List (Beside × (ℤ × ℤ)) → PieceShape → PieceShape → Type 0

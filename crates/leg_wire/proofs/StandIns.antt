@@ -12,7 +12,7 @@ use Rattle.leg_wire.specs.Steps.Kinds.{AreSameMetal, IsOfKind, AreKinds}
 use Rattle.leg_wire.specs.Steps.NumberSets.{AreTogether}
 use Rattle.leg_wire.specs.Steps.PieceMetal.{LiesAmong, TouchAmong}
 use Rattle.leg_wire.specs.Steps.JoinSteps.{AreSomeJoined, AreSetsOf, AreKept, AreTogetherAlike, AreStaying, IsStayingMetal, AreLatest, HasOneMore}
-use Rattle.leg_wire.proofs.SetsUnited.{AreTogether-itself, AreTogether-back, AreTogether-onward}
+use Rattle.leg_wire.proofs.SetUnions.{AreTogether-itself, AreTogether-back, AreTogether-onward}
 
 module _ (metal kinds : List PieceShape) (numbers stand_ins : List ℕ) (i : ℕ) (staying : List Bool) (done : AreStaying metal kinds numbers stand_ins i staying)
     (s t : PieceShape) (s_at : slice_get metal i ≡ Some s) (t_is : t ≡ get_or kinds (get_or numbers i 0) t) where

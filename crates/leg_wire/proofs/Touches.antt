@@ -21,7 +21,7 @@ use Rattle.leg_wire.specs.PieceMarks.{AreMarks, AreFirsts}
 use Rattle.leg_rules.specs.Joins.Touch.{piece_count, IsOfPiece, LiesIn, Touch, Joined, AreJoined}
 use Rattle.leg_rules.specs.Joins.Touch.Joined.{itself, through}
 use Rattle.leg_wire.proofs.PiecesTouch.{AreSoFar}
-use Rattle.leg_wire.proofs.SetsUnited.{AreTogether-back, AreTogether-onward}
+use Rattle.leg_wire.proofs.SetUnions.{AreTogether-back, AreTogether-onward}
 
 -- the pieces of a net that the flat tells are counted
 pub piece_count-is : (flat : FlatModel) (n count : ℕ) → option_map length (slice_get flat.pieces n) ≡ Some count → piece_count flat n ≡ count

@@ -11,7 +11,7 @@ use Rattle.leg_grammar.specs.Def.Path.{next_spot, is_same_spot, extension_at, se
 use Rattle.leg_grammar.specs.Def.Wiring.{path_at}
 
 -- where a path is after some of its items: its layer, its point with the extension there, and its wires so far
-pub record Walked : Type 0 where
+pub record PathState : Type 0 where
   pub layer : ℕ
   pub at : PointModel
   pub extension : Option ℤ
@@ -22,18 +22,18 @@ abbrev pub behind : List Wire → Option (List Wire) → Option (List Wire)
 behind wires = option_map (λ others. wires ++ others)
 
 -- all wires of the path, where these items follow
-abbrev pub wires_with : NetScopeModel → Option ℤ → Walked → List Item → Option (List Wire)
+abbrev pub wires_with : NetScopeModel → Option ℤ → PathState → List Item → Option (List Wire)
 wires_with scope written walk items =
     behind walk.wires (wires_from scope written walk.layer walk.at walk.extension items)
 
 -- after a step to a point with this extension
-unfoldable pub walked_to : NetScopeModel → Option ℤ → PointModel → Option ℤ → Walked → Option Walked
+unfoldable pub walked_to : NetScopeModel → Option ℤ → PointModel → Option ℤ → PathState → Option PathState
 walked_to scope written to extension walk = do
   segment ← segment_to scope.library written walk.layer walk.at walk.extension to extension
   Some (record { layer = walk.layer; at = to; extension = extension; wires = walk.wires ++ segment ∷ [] })
 
 -- after one more item, before these
-unfoldable pub walked_past : NetScopeModel → Option ℤ → Item → List Item → Walked → Option Walked
+unfoldable pub walked_past : NetScopeModel → Option ℤ → Item → List Item → PathState → Option PathState
 walked_past scope written (ToPoint x y given) later walk =
     if is_same_spot walk.at (next_spot walk.at x y) then Some walk
     else walked_to scope written (next_spot walk.at x y) (extension_at (next_spot walk.at x y) given later) walk

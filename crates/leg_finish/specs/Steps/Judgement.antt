@@ -7,7 +7,7 @@ use Rattle.leg_design_records.specs.WellFormedNets.{IsWire}
 use Rattle.leg_rules.specs.Metal.Flat.{FlatModel}
 use Rattle.leg_rules.specs.Joins.Violations.{IsOpenNet}
 use Rattle.leg_route_laws.specs.CleanWire.{HasNoSpacingFault}
-use Rattle.leg_route_laws.specs.Finished.{AreByNet}
+use Rattle.leg_route_laws.specs.FinishedDesign.{AreByNet}
 use Rattle.leg_route_laws.specs.Growth.{AddedWire, Grows, of_net}
 use Rattle.leg_rules.specs.Finish.Refusal.{ComesToSearch}
 

@@ -9,7 +9,7 @@ use Rattle.leg_grammar.specs.Def.Guard.{when, unless}
 use Rattle.leg_grammar.specs.Def.LonePins.{NetLists, with_lone_pins}
 use Rattle.leg_design_records.specs.Records.{DesignModel, terminal_count}
 use Rattle.leg_grammar.specs.Def.Parts.{DesignParts, no_parts, divider_form, bus_form, name_form, units_form, die_form, row_form, track_form, vias_form, components_form, pins_form, blockages_form, nets_form, special_form}
-use Rattle.leg_grammar.specs.Def.Skipped.{past_def_form}
+use Rattle.leg_grammar.specs.Def.SkippedForms.{past_def_form}
 
 -- a form that comes before the sections
 unfoldable pub header_form : DesignParts → Words → Option (DesignParts × Words)

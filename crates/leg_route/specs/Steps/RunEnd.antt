@@ -4,7 +4,7 @@ use Rattle.leg_design_records.specs.declared.limits.TheConstants.{PART_LIMIT}
 use Rattle.leg_design_records.specs.declared.records.Wire.{Wire}
 use Rattle.leg_design_records.specs.Records.{DesignModel}
 use Rattle.leg_rules.specs.Metal.Flat.{FlatModel}
-use Rattle.leg_rules.specs.Route.Run.{Added, RouteRun, IsDone}
+use Rattle.leg_rules.specs.Route.Run.{NetWires, RouteRun, IsDone}
 use Rattle.leg_rules.specs.Route.Refusal.{ComesToRun}
 use Rattle.leg_route.specs.Steps.NetLists.{AreListsOf}
 
@@ -13,7 +13,7 @@ use Rattle.leg_route.specs.Steps.NetLists.{AreListsOf}
 pub record IsFinishedRun (design : DesignModel) (lists : List (List Wire)) : Type 0 where
   pub flat : FlatModel
   pub comes : ComesToRun design flat
-  pub added : List Added
+  pub added : List NetWires
   pub grown : FlatModel
   pub run : RouteRun design flat added grown
   pub done : IsDone design grown

@@ -11,7 +11,7 @@ use Rattle.leg_rules.specs.Violations.{IsOtherThanOpen}
 use Rattle.leg_rules.specs.declared.node.Node.{Node}
 use Rattle.leg_rules.specs.Route.Spelling.{AreWiresOf}
 use Rattle.leg_rules.specs.Route.MoreWires.{HasMoreWires}
-use Rattle.leg_rules.specs.Route.Run.{Added, RouteRun, IsTurn, IsNextWalk, HasNoWalk}
+use Rattle.leg_rules.specs.Route.Run.{NetWires, RouteRun, IsTurn, IsNextWalk, HasNoWalk}
 
 -- The design isn't clean: these are its violations of all kinds but Open, and there are some.
 pub record IsNotClean (design : DesignModel) (flat : FlatModel) (faults : List Fault) : Type 0 where
@@ -20,7 +20,7 @@ pub record IsNotClean (design : DesignModel) (flat : FlatModel) (faults : List F
 
 -- The net is unroutable: a run from this flat has come to its turn, and no open walk leads on.
 pub record IsUnroutable (design : DesignModel) (flat : FlatModel) (net : ℕ) : Type 0 where
-  pub added : List Added
+  pub added : List NetWires
   pub grown : FlatModel
   pub run : RouteRun design flat added grown
   pub turn : IsTurn design grown net
@@ -29,7 +29,7 @@ pub record IsUnroutable (design : DesignModel) (flat : FlatModel) (net : ℕ) : 
 -- A run from this flat has come to a net's turn, and one of the wires of its next walk has more shapes than a flat may
 -- still get.
 pub record HasTooManyShapes (design : DesignModel) (flat : FlatModel) : Type 0 where
-  pub added : List Added
+  pub added : List NetWires
   pub grown : FlatModel
   pub net : ℕ
   pub nodes : List Node

@@ -28,14 +28,14 @@ HasNoWalk design flat net =
     NoWalk (IsOpenNode design flat net) (IsOpenStep design flat net) (MeetsJoined flat net) (MeetsRest flat net)
 
 -- wires of a net
-pub record Added : Type 0 where
+pub record NetWires : Type 0 where
   pub net : ℕ
   pub wires : List Wire
 
 -- From the first flat a run has come to the second, and has added these wires, walk by walk.
-pub data RouteRun (design : DesignModel) : FlatModel → List Added → FlatModel → Type 0 where
+pub data RouteRun (design : DesignModel) : FlatModel → List NetWires → FlatModel → Type 0 where
   begun : {flat : FlatModel} → RouteRun design flat [] flat
-  walked : {flat mid grown : FlatModel} {added : List Added} {nodes : List Node} {wires : List Wire} (net : ℕ)
+  walked : {flat mid grown : FlatModel} {added : List NetWires} {nodes : List Node} {wires : List Wire} (net : ℕ)
       → RouteRun design flat added mid → IsTurn design mid net → IsNextWalk design mid net nodes → AreWiresOf design nodes wires
       → HasMoreWires design net wires mid grown → RouteRun design flat (added ++ record { net = net; wires = wires } ∷ []) grown
 

@@ -1,18 +1,18 @@
 use Rattle.std.proofs.Common.{◌∙◌, ap, sym}
+use Rattle.std.proofs.lemmas.Result.{IfOk-weaker}
 use Rattle.leg_app.specs.Reason.{needed_master}
-use Rattle.leg_app.proofs.AnswerLemmas.{ok_weaker}
 use Rattle.leg_app.proofs.Denotations.{say_under, no_design}
 use Rattle.leg_app.proofs.answer.library_answer.Goals as goal
 
 pub returns-in-Ok : goal.returns-in-Ok
 returns-in-Ok g c =
-    ok_weaker _ _ c.design_answer.result (λ answer all lefs just. all lefs c.args.def
+    IfOk-weaker c.design_answer.result _ _ (λ answer all lefs just. all lefs c.args.def
     (say_under lefs c.args.def c.args.library.now c.in-Ok.design just c.in-Ok.ensures.found)) c.design_answer.ensures
 
 pub returns-in_ok-master-in-Err : goal.returns-in_ok-master-in-Err
 returns-in_ok-master-in-Err g c =
     let library = c.args.library.now in
-    ok_weaker _ _ c.refusal.result
+    IfOk-weaker c.refusal.result _ _
     (λ answer all lefs just. all lefs c.args.def
     (λ not_memory. no_design lefs c.args.def library just (c.in-Err.ensures.none (λ is. not_memory (c.behind_lefs.ensures.kind ∙ is))))
     tt

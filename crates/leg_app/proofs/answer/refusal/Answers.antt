@@ -1,11 +1,11 @@
 use Rattle.std.proofs.Common.{◌≢◌, inl, inr}
+use Rattle.std.proofs.lemmas.Result.{IfOk-weaker}
 use Rattle.leg_lib_records.specs.declared.scale_fault.ScaleKind.TheVariants as scale
-use Rattle.leg_app.proofs.AnswerLemmas.{ok_weaker}
 use Rattle.leg_app.proofs.answer.refusal.Goals as goal
 
 pub returns-in-Read : goal.returns-in-Read
 returns-in-Read g c =
-    ok_weaker _ _ c.unread.result
+    IfOk-weaker c.unread.result _ _
     (λ answer all lefs def refused units of_master. all lefs def (rw c.in-Read.is at refused) (rw c.in-Read.is at of_master))
     c.unread.ensures
 

@@ -1,6 +1,7 @@
 use Rattle.std.proofs.Common.{Some}
+use Rattle.std.proofs.lemmas.Result.{IfOk-weaker}
 use Rattle.leg_app_input.specs.declared.command.Command.TheVariants.{Check}
-use Rattle.leg_app.proofs.AnswerLemmas.{ok_weaker, ok_both, listed_answer}
+use Rattle.leg_app.proofs.AnswerLemmas.{ok_both, listed_answer}
 use Rattle.leg_app.proofs.Reasons.{explains_listing}
 use Rattle.leg_app.proofs.answer.whole_answer.Goals as goal
 
@@ -10,7 +11,7 @@ returns-in-Ok g c =
     let checked = c.in-Ok.checked in
     let flat = Some checked.flat in
     let violations = checked.violations.items in
-    ok_weaker _ _ c.listing.result
+    IfOk-weaker c.listing.result _ _
     (λ answer both lefs def say. record {
       answer =
           listed_answer Check lefs def design.library design flat violations answer.status answer.text.items say c.in-Ok.ensures.flat

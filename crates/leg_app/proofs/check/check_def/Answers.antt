@@ -1,12 +1,12 @@
 use Rattle.std.proofs.Common.{◌∙◌}
-use Rattle.leg_app.proofs.AnswerLemmas.{ok_weaker, err_weaker}
+use Rattle.std.proofs.lemmas.Result.{IfOk-weaker, IfErr-weaker}
 use Rattle.leg_app.proofs.Denotations.{say_under, no_design}
 use Rattle.leg_app.proofs.check.check_def.Goals as goal
 
 pub returns-in-Ok-clause-found : goal.returns-in-Ok-clause-found
 returns-in-Ok-clause-found g c =
     let design = c.in-Ok.design in
-    ok_weaker _ _ c.violations_of.result
+    IfOk-weaker c.violations_of.result _ _
     (λ found list lefs just. record {
       library = design.library;
       design = design;
@@ -17,7 +17,7 @@ returns-in-Ok-clause-found g c =
 
 pub returns-in-Ok-clause-refused : goal.returns-in-Ok-clause-refused
 returns-in-Ok-clause-refused g c =
-    err_weaker _ _ c.violations_of.result
+    IfErr-weaker c.violations_of.result _ _
     (λ fault refused lefs just. refused lefs c.args.def (say_under lefs c.args.def c.args.library.now c.in-Ok.design just c.in-Ok.ensures.found))
     c.violations_of.ensures.refused
 

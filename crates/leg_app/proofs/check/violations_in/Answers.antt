@@ -1,5 +1,5 @@
-use Rattle.std.proofs.lemmas.Result.{err_from_is_err_and}
-use Rattle.leg_app.proofs.AnswerLemmas.{ok_weaker, err_weaker, refuses_weaker}
+use Rattle.std.proofs.lemmas.Result.{err_from_is_err_and, IfOk-weaker, IfErr-weaker}
+use Rattle.leg_app.proofs.AnswerLemmas.{refuses_weaker}
 use Rattle.leg_app.proofs.Denotations.{nothing_under}
 use Rattle.leg_app.proofs.check.violations_in.Goals as goal
 
@@ -11,9 +11,9 @@ returns-in_err-library-clause-refused g c =
 pub returns-clause-found : goal.returns-clause-found
 returns-clause-found g c =
     let said = c.in_ok-library.ensures in
-    ok_weaker _ _ c.check_def.result (λ list all. all _ (record { found = said.found; only = said.only })) (rw said.text at c.check_def.ensures.found)
+    IfOk-weaker c.check_def.result _ _ (λ list all. all _ (record { found = said.found; only = said.only })) (rw said.text at c.check_def.ensures.found)
 
 pub returns-clause-refused : goal.returns-clause-refused
 returns-clause-refused g c =
     let said = c.in_ok-library.ensures in
-    err_weaker _ _ c.check_def.result (λ fault all. all _ (record { found = said.found; only = said.only })) (rw said.text at c.check_def.ensures.refused)
+    IfErr-weaker c.check_def.result _ _ (λ fault all. all _ (record { found = said.found; only = said.only })) (rw said.text at c.check_def.ensures.refused)

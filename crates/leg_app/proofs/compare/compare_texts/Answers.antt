@@ -1,14 +1,15 @@
 use Rattle.std.proofs.Common.{map}
+use Rattle.std.proofs.lemmas.Result.{IfOk-weaker}
 use Rattle.leg_grammar.specs.Texts.{DenoteNothing}
 use Rattle.leg_app.specs.Steps.OneLibrary.{DenoteNoLibrary}
-use Rattle.leg_app.proofs.AnswerLemmas.{ok_weaker, refuses_weaker, master_of_none}
+use Rattle.leg_app.proofs.AnswerLemmas.{refuses_weaker, master_of_none}
 use Rattle.leg_app.proofs.Denotations.{nothing_under}
 use Rattle.leg_app.proofs.compare.compare_texts.Goals as goal
 
 pub returns-in-Ok : goal.returns-in-Ok
 returns-in-Ok g c =
     let said = c.in-Ok.ensures in
-    ok_weaker _ _ c.library_comparison.result (λ answer all. all (record { found = said.found; only = said.only }))
+    IfOk-weaker c.library_comparison.result _ _ (λ answer all. all (record { found = said.found; only = said.only }))
     (rw said.text at c.library_comparison.ensures)
 
 pub returns-in-Err : goal.returns-in-Err
@@ -17,7 +18,7 @@ returns-in-Err g c =
     let before = c.args.before.now in
     let fault = c.in-Err.fault in
     let none = c.in-Err.ensures.none in
-    ok_weaker _ _ c.refusal.result
+    IfOk-weaker c.refusal.result _ _
     (λ answer all. all lefs before c.args.after.now (refuses_weaker {nothing = DenoteNoLibrary lefs before} {other = DenoteNothing lefs before} {much = ⊥}
     {more = ⊥} fault (nothing_under lefs before) (λ much. much) none) c.in-Err.ensures.units (master_of_none lefs before fault none))
     c.refusal.ensures

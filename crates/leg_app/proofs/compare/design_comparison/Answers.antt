@@ -1,8 +1,8 @@
 use Rattle.std.proofs.Common.{map, sym, ◌∙◌, subst}
+use Rattle.std.proofs.lemmas.Result.{IfOk-weaker}
 use Rattle.leg_lex.specs.Denotes.{Denotes}
 use Rattle.leg_lex.proofs.Denotations.{says_one}
 use Rattle.leg_grammar.specs.Def.Header.{units_in}
-use Rattle.leg_app.proofs.AnswerLemmas.{ok_weaker}
 use Rattle.leg_app.proofs.Denotations.{no_units, nothing_under}
 use Rattle.leg_app.proofs.Comparisons.{say_design, just_other}
 use Rattle.leg_app.proofs.compare.design_comparison.Goals as goal
@@ -13,7 +13,7 @@ returns-then-units g c =
     let library = c.args.library.now in
     let after = c.args.after.now in
     let same = c.if-units.true ∙ c.units.ensures in
-    ok_weaker _ _ c.second_comparison.result
+    IfOk-weaker c.second_comparison.result _ _
     (λ answer all before just says. all lefs before (say_design lefs before library c.args.first.now just says)
     (just_other lefs before after library (subst (Denotes units_in after) same c.in-Ok.ensures.units) just))
     (rw c.in-Ok.ensures.text at c.second_comparison.ensures)
@@ -23,7 +23,7 @@ returns-in-Ok g c =
     let lefs = map (λ t. t.now) c.args.lefs.now in
     let library = c.args.library.now in
     let after = c.args.after.now in
-    ok_weaker _ _ c.other_units.result
+    IfOk-weaker c.other_units.result _ _
     (λ answer all before just says. all before c.args.first.now (say_design lefs before library c.args.first.now just says)
     (λ units said is. c.if-units.false (says_one units_in after c.in-Ok.units units c.in-Ok.ensures.units said ∙ (is ∙ sym c.units.ensures))))
     c.other_units.ensures
@@ -32,7 +32,7 @@ pub returns : goal.returns
 returns g c =
     let lefs = map (λ t. t.now) c.args.lefs.now in
     let after = c.args.after.now in
-    ok_weaker _ _ c.refusal.result
+    IfOk-weaker c.refusal.result _ _
     (λ answer all before just says. all lefs before after
     (λ not_memory. nothing_under lefs after (no_units lefs after (c.in-Err.ensures.none (λ is. not_memory (c.behind_lefs.ensures.kind ∙ is)))))
     tt

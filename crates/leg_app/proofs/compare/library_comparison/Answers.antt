@@ -1,5 +1,5 @@
 use Rattle.std.proofs.Common.{map}
-use Rattle.leg_app.proofs.AnswerLemmas.{ok_weaker}
+use Rattle.std.proofs.lemmas.Result.{IfOk-weaker}
 use Rattle.leg_app.proofs.Comparisons.{library_of}
 use Rattle.leg_app.proofs.compare.library_comparison.Goals as goal
 
@@ -8,9 +8,9 @@ design_comparison-requires g c = library_of c.args.library.now c.args.before c.i
 
 pub returns-in-Ok : goal.returns-in-Ok
 returns-in-Ok g c =
-    ok_weaker _ _ c.design_comparison.result (λ answer all just. all c.args.before just c.in-Ok.ensures.found) c.design_comparison.ensures
+    IfOk-weaker c.design_comparison.result _ _ (λ answer all just. all c.args.before just c.in-Ok.ensures.found) c.design_comparison.ensures
 
 pub returns-in-Err : goal.returns-in-Err
 returns-in-Err g c =
     let lefs = map (λ t. t.now) c.args.lefs.now in
-    ok_weaker _ _ c.unread.result (λ answer all just. all lefs c.args.before c.args.after.now just c.in-Err.ensures.none) c.unread.ensures
+    IfOk-weaker c.unread.result _ _ (λ answer all just. all lefs c.args.before c.args.after.now just c.in-Err.ensures.none) c.unread.ensures

@@ -1,12 +1,12 @@
 use Rattle.std.proofs.Common.{refl}
-use Rattle.leg_app.proofs.AnswerLemmas.{ok_weaker}
+use Rattle.std.proofs.lemmas.Result.{IfOk-weaker}
 use Rattle.leg_app.proofs.Comparisons.{say_design}
 use Rattle.leg_app.proofs.compare.other_library.Goals as goal
 
 pub returns-in-Ok : goal.returns-in-Ok
 returns-in-Ok g c =
     let other = c.args.other.now in
-    ok_weaker _ _ c.units_differ.result
+    IfOk-weaker c.units_differ.result _ _
     (λ answer all lefs before library first say apart just. all lefs before c.args.after
     (record {
       library = library;
@@ -23,5 +23,5 @@ returns-in-Ok g c =
 
 pub returns-in-Err : goal.returns-in-Err
 returns-in-Err g c =
-    ok_weaker _ _ c.unread.result (λ answer all lefs before library first say apart just.
+    IfOk-weaker c.unread.result _ _ (λ answer all lefs before library first say apart just.
     all lefs before c.args.after just c.in-Err.ensures.none) c.unread.ensures

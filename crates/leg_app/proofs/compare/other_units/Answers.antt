@@ -1,7 +1,8 @@
 use Rattle.std.proofs.Common.{map, sym, ◌∙◌}
+use Rattle.std.proofs.lemmas.Result.{IfOk-weaker}
 use Rattle.leg_grammar.specs.Texts.{DenoteNothing}
 use Rattle.leg_app.specs.Steps.OneLibrary.{DenoteNoLibrary}
-use Rattle.leg_app.proofs.AnswerLemmas.{ok_weaker, refuses_weaker, master_of_none}
+use Rattle.leg_app.proofs.AnswerLemmas.{refuses_weaker, master_of_none}
 use Rattle.leg_app.proofs.Denotations.{nothing_under}
 use Rattle.leg_app.proofs.compare.other_units.Goals as goal
 
@@ -11,7 +12,7 @@ returns-in-Ok g c =
     let after = c.args.after.now in
     let said = c.in-Ok.ensures in
     let found = said.found in
-    ok_weaker _ _ c.other_library.result
+    IfOk-weaker c.other_library.result _ _
     (λ answer all before first say apart. all lefs before c.args.library.now first say
     (λ same. apart found.units found.unit (sym (same ∙ found.scaled.units)))
     (record { found = found; only = said.only }))
@@ -23,7 +24,7 @@ returns-in-Err g c =
     let after = c.args.after.now in
     let fault = c.in-Err.fault in
     let none = c.in-Err.ensures.none in
-    ok_weaker _ _ c.refusal.result
+    IfOk-weaker c.refusal.result _ _
     (λ answer all before first say apart. all lefs before after
     (refuses_weaker {nothing = DenoteNoLibrary lefs after} {other = DenoteNothing lefs after} {much = ⊥} {more = ⊥} fault (nothing_under lefs after)
     (λ much. much) none) c.in-Err.ensures.units (master_of_none lefs after fault none))

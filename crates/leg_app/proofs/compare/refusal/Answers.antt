@@ -1,12 +1,12 @@
 use Rattle.std.proofs.Common.{◌≢◌, inr}
+use Rattle.std.proofs.lemmas.Result.{IfOk-weaker}
 use Rattle.leg_lib_records.specs.declared.scale_fault.ScaleKind.TheVariants as scale
-use Rattle.leg_app.proofs.AnswerLemmas.{ok_weaker}
 use Rattle.leg_app.proofs.Comparisons.{nothing_of}
 use Rattle.leg_app.proofs.compare.refusal.Goals as goal
 
 pub returns-in-Read : goal.returns-in-Read
 returns-in-Read g c =
-    ok_weaker _ _ c.not_read.result
+    IfOk-weaker c.not_read.result _ _
     (λ answer all lefs before after refused units of_master. all lefs before after (rw c.in-Read.is at refused) (rw c.in-Read.is at of_master))
     c.not_read.ensures
 

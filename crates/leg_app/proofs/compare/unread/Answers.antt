@@ -1,14 +1,14 @@
 use Rattle.std.proofs.Common.{◌∙◌, ap, sym}
+use Rattle.std.proofs.lemmas.Result.{IfOk-weaker}
 use Rattle.leg_app.specs.Reason.{needed_master}
 use Rattle.leg_app.specs.Comparison.{def_of}
-use Rattle.leg_app.proofs.AnswerLemmas.{ok_weaker}
 use Rattle.leg_app.proofs.Denotations.{no_design}
 use Rattle.leg_app.proofs.compare.unread.Goals as goal
 
 pub returns : goal.returns
 returns g c =
     let library = c.args.library.now in
-    ok_weaker _ _ c.refusal.result
+    IfOk-weaker c.refusal.result _ _
     (λ answer all lefs before after just none. all lefs before after
     (λ not_memory. no_design lefs (def_of c.args.side before after) library just (none (λ is. not_memory (c.behind_lefs.ensures.kind ∙ is))))
     tt

@@ -1,4 +1,5 @@
-use Rattle.leg_app.proofs.AnswerLemmas.{ok_weaker, ok_both}
+use Rattle.std.proofs.lemmas.Result.{IfOk-weaker}
+use Rattle.leg_app.proofs.AnswerLemmas.{ok_both}
 use Rattle.leg_app.proofs.finish_answer.finish_answer.Goals as goal
 
 pub returns-in_ok-text-in-Ok-clause-is : goal.returns-in_ok-text-in-Ok-clause-is
@@ -24,4 +25,4 @@ not_finished-requires g c = rw c.in-Err.ensures.unchanged c.in-Err.ensures.refus
 pub returns-in-Err-clause-is : goal.returns-in-Err-clause-is
 returns-in-Err-clause-is g c =
     let tells = rw c.in-Err.ensures.unchanged at c.not_finished.ensures.tells in
-    ok_weaker _ _ c.not_finished.result (λ answer both. rw both.0 (both.1)) (ok_both _ _ c.not_finished.result c.not_finished.ensures.status tells)
+    IfOk-weaker c.not_finished.result _ _ (λ answer both. rw both.0 (both.1)) (ok_both _ _ c.not_finished.result c.not_finished.ensures.status tells)

@@ -1,6 +1,7 @@
+use Rattle.std.proofs.lemmas.Result.{IfOk-weaker}
 use Rattle.leg_app.specs.LegaliseResult.{Legalises}
 use Rattle.leg_app.specs.FlowResult.ReportsFlowStopped.{not_legalised}
-use Rattle.leg_app.proofs.AnswerLemmas.{ok_weaker, ok_both}
+use Rattle.leg_app.proofs.AnswerLemmas.{ok_both}
 use Rattle.leg_app.proofs.flow_answer.flow_answer.Goals as goal
 
 pub returns-in-Ok-clause-is : goal.returns-in-Ok-clause-is
@@ -12,7 +13,7 @@ returns-in-Ok-clause-is g c =
       proper = c.design_is_sound.ensures.proper;
       sound = c.design_is_sound.ensures.library;
     } in
-    ok_weaker _ _ c.routing_answer.result (λ answer made. made c.args.design legalises c.in-Ok.ensures.moves) c.routing_answer.ensures.is
+    IfOk-weaker c.routing_answer.result _ _ (λ answer made. made c.args.design legalises c.in-Ok.ensures.moves) c.routing_answer.ensures.is
 
 pub returns-in-Ok-clause-explains : goal.returns-in-Ok-clause-explains
 returns-in-Ok-clause-explains g c =
@@ -23,11 +24,11 @@ returns-in-Ok-clause-explains g c =
       proper = c.design_is_sound.ensures.proper;
       sound = c.design_is_sound.ensures.library;
     } in
-    ok_weaker _ _ c.routing_answer.result (λ answer told. told c.args.design legalises) c.routing_answer.ensures.explains
+    IfOk-weaker c.routing_answer.result _ _ (λ answer told. told c.args.design legalises) c.routing_answer.ensures.explains
 
 pub returns-in-Err-clause-is : goal.returns-in-Err-clause-is
 returns-in-Err-clause-is g c =
     let tells = rw c.in-Err.ensures.unchanged at c.not_legalised.ensures.tells in
-    ok_weaker _ _ c.not_legalised.result
+    IfOk-weaker c.not_legalised.result _ _
     (λ answer both. rw both.0 (not_legalised (both.1 c.in-Err.ensures.refused)))
     (ok_both _ _ c.not_legalised.result c.not_legalised.ensures.status tells)

@@ -1,4 +1,5 @@
-use Rattle.leg_app.proofs.AnswerLemmas.{ok_weaker, ok_both}
+use Rattle.std.proofs.lemmas.Result.{IfOk-weaker}
+use Rattle.leg_app.proofs.AnswerLemmas.{ok_both}
 use Rattle.leg_app.proofs.legalise_answer.legalise_answer.Goals as goal
 
 pub returns-in_ok-text-in-Ok-clause-is : goal.returns-in_ok-text-in-Ok-clause-is
@@ -21,5 +22,5 @@ returns-in_ok-text-in-Ok-clause-is g c = record {
 pub returns-in-Err-clause-is : goal.returns-in-Err-clause-is
 returns-in-Err-clause-is g c =
     let tells = rw c.in-Err.ensures.unchanged at c.not_legalised.ensures.tells in
-    ok_weaker _ _ c.not_legalised.result (λ answer both. rw both.0 (both.1 c.in-Err.ensures.refused))
+    IfOk-weaker c.not_legalised.result _ _ (λ answer both. rw both.0 (both.1 c.in-Err.ensures.refused))
     (ok_both _ _ c.not_legalised.result c.not_legalised.ensures.status tells)

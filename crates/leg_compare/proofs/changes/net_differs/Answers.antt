@@ -2,7 +2,7 @@ use Rattle.std.proofs.Common.{◌≡◌, ◌↔◌, IsTrue, List, ap, ◌∙◌,
 use Rattle.leg_design_records.specs.declared.records.Terminal.{Terminal}
 use Rattle.leg_design_records.specs.Records.{NetModel}
 use Rattle.leg_rules.specs.Compare.Spelling.{AreSameTerminals, spelled_terminals}
-use Rattle.leg_compare.proofs.SetsTold.{not_same}
+use Rattle.leg_compare.proofs.TerminalSets.{not_same}
 use Rattle.leg_compare.proofs.changes.net_differs.Goals as goal
 
 pub returns-in_ok-are_same_terminals-in-Terminals : goal.returns-in_ok-are_same_terminals-in-Terminals

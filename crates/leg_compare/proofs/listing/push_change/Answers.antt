@@ -3,7 +3,7 @@ use Rattle.leg_rules.specs.declared.difference.Difference.TheVariants.{Changed}
 use Rattle.leg_rules.specs.Compare.Sections.{names_of}
 use Rattle.leg_rules.specs.Compare.Differences.{HasChanged}
 use Rattle.leg_compare.proofs.BetweenRanks.{with_one, without_one}
-use Rattle.leg_compare.proofs.Named.{found_within}
+use Rattle.leg_compare.proofs.EntryNames.{found_within}
 use Rattle.leg_compare.proofs.listing.push_change.Goals as goal
 
 pub has_changed-requires-clause-in_first : goal.has_changed-requires-clause-in_first

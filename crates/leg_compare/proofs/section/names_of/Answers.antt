@@ -1,6 +1,6 @@
 use Rattle.std.proofs.Common.{rules}
 use Rattle.leg_rules.specs.Compare.Sections.{names_of}
-use Rattle.leg_compare.proofs.Named.{next_is_new, one_more_name}
+use Rattle.leg_compare.proofs.EntryNames.{next_is_new, one_more_name}
 use Rattle.leg_compare.proofs.section.names_of.Goals as goal
 
 pub push-requires : goal.push-requires

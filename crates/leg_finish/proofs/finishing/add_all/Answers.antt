@@ -2,10 +2,11 @@ use Rattle.std.proofs.Common.{◌≡◌, false, List, All, length, map, sum_by, 
 use Rattle.leg_design_records.specs.WellFormed.{IsWellFormed}
 use Rattle.leg_design_records.specs.declared.records.Wire.{Wire}
 use Rattle.leg_rules.specs.Legal.{IsLegal}
-use Rattle.leg_route_laws.specs.Finished.{finished}
+use Rattle.leg_route_laws.specs.FinishedDesign.{finished}
 use Rattle.leg_design_records.specs.WellFormedNets.{IsWire}
 use Rattle.leg_rules.specs.Finish.Wires.{wire_length, is_via}
-use Rattle.leg_finish.proofs.WithWires.{few_shapes, few_wires, few_added, legal_then, sum_mapped, all_before}
+use Rattle.leg_finish_search.proofs.Elements.{all_before}
+use Rattle.leg_finish.proofs.WithWires.{few_shapes, few_wires, few_added, legal_then, sum_mapped}
 use Rattle.leg_finish.proofs.AddedWires.{adds_to_open, have_totals}
 use Rattle.leg_finish.proofs.finishing.add_all.Goals as goal
 
@@ -19,7 +20,7 @@ totals_of-totals-requires g c =
 
 pub with_all_wires-requires-clause-spelled : goal.with_all_wires-requires-clause-spelled
 with_all_wires-requires-clause-spelled g c =
-    all_before c.args.lists.items (λ wires. wires.items) (All (IsWire c.args.design.library c.args.design.vias false)) c.requires.laid.spelled
+    all_before (All (IsWire c.args.design.library c.args.design.vias false)) (λ wires. wires.items) c.args.lists.items c.requires.laid.spelled
 
 pub with_all_wires-requires-clause-few : goal.with_all_wires-requires-clause-few
 with_all_wires-requires-clause-few g c =

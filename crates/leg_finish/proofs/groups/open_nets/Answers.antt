@@ -1,7 +1,7 @@
 use Rattle.std.proofs.Common.{◌≡◌, ◌<◌, ◌∷◌, length, ap, ◌∙◌, arith}
 use Rattle.leg_finish.specs.Steps.OpenNets.{AreListsFrom}
 use Rattle.leg_finish.proofs.OpenNets.{none_open, all_open, lists_first, list_here, lists_next}
-use Rattle.leg_finish.proofs.NetsLeft.{few_open}
+use Rattle.leg_finish.proofs.RemainingNets.{few_open}
 use Rattle.leg_finish.proofs.groups.open_nets.Goals as goal
 
 pub loop-shapes-init : goal.loop-shapes-init

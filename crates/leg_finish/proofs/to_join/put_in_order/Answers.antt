@@ -4,7 +4,7 @@ use Rattle.std.proofs.lemmas.List.Elements.{All-contains}
 use Rattle.std.proofs.lemmas.List.Filters.{dedup_is}
 use Rattle.std.proofs.lemmas.List.Kept.{Contains-from_dedup}
 use Rattle.std.proofs.lemmas.List.Sorted.{All-permutation}
-use Rattle.leg_lemmas.proofs.Contained.{All-from_contains}
+use Rattle.leg_lemmas.proofs.Contents.{All-from_contains}
 use Rattle.leg_finish.proofs.to_join.put_in_order.Goals as goal
 
 pub returns : goal.returns

@@ -1,4 +1,4 @@
-use Rattle.leg_finish.proofs.NetsLeft.{are_unfinished}
+use Rattle.leg_finish.proofs.RemainingNets.{are_unfinished}
 use Rattle.leg_finish.proofs.unfinished.cause_of.Goals as goal
 
 pub returns-clause-cause : goal.returns-clause-cause

@@ -4,7 +4,7 @@ use Rattle.leg_lib_records.specs.Sound.{IsSoundMaster}
 use Rattle.leg_flat.specs.Steps.AddedMetal.{master_of}
 use Rattle.leg_flat.proofs.MoreMetal.{adds_none, adds_same, adds_both}
 use Rattle.leg_flat.proofs.MetalWalks.{no_place, no_master}
-use Rattle.leg_flat.proofs.MetalKept.{on_ok}
+use Rattle.leg_flat.proofs.Registers.{on_ok}
 use Rattle.leg_flat.proofs.metal.add_component.Goals as goal
 
 pub returns-in_default : goal.returns-in_default

@@ -5,7 +5,7 @@ use Rattle.leg_design_records.specs.WellFormedParts.{IsPin, IsPort}
 use Rattle.leg_flat.specs.Steps.AddedMetal.{IsPortWithin}
 use Rattle.leg_flat.proofs.MoreMetal.{adds_at, adds_all}
 use Rattle.leg_flat.proofs.MetalWalks.{design_pin_metal, design_pins_walk}
-use Rattle.leg_flat.proofs.MetalKnown.{port_within}
+use Rattle.leg_flat.proofs.DrawnMetal.{port_within}
 use Rattle.leg_flat.proofs.metal.add_design_pins.Goals as goal
 
 pub add_ports-requires : goal.add_ports-requires

@@ -1,4 +1,4 @@
-use Rattle.leg_flat.proofs.MetalKept.{kept_size}
+use Rattle.leg_flat.proofs.Registers.{kept_size}
 use Rattle.leg_flat.proofs.metal.add_obstructions.Goals as goal
 
 pub returns : goal.returns

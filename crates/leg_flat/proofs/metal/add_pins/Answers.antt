@@ -5,8 +5,8 @@ use Rattle.leg_lib_records.specs.Records.{MasterPinModel}
 use Rattle.leg_lib_records.specs.Sound.{AreShapesWithin}
 use Rattle.leg_flat.proofs.MoreMetal.{adds_at, adds_all}
 use Rattle.leg_flat.proofs.MetalWalks.{pin_metal, pins_walk}
-use Rattle.leg_flat.proofs.MetalKnown.{master_drawn}
-use Rattle.leg_flat.proofs.MetalKept.{kept_size}
+use Rattle.leg_flat.proofs.DrawnMetal.{master_drawn}
+use Rattle.leg_flat.proofs.Registers.{kept_size}
 use Rattle.leg_flat.proofs.metal.add_pins.Goals as goal
 
 pub add_drawn-requires-clause-within : goal.add_drawn-requires-clause-within

@@ -1,5 +1,5 @@
 use Rattle.std.proofs.Common.{◌≡◌, ◌++◌, Some, slice_get, sym, rules}
-use Rattle.leg_flat.proofs.MetalKnown.{via_drawn}
+use Rattle.leg_flat.proofs.DrawnMetal.{via_drawn}
 use Rattle.leg_flat.proofs.metal_wires.add_via.Goals as goal
 
 pub add_shifted-requires-clause-within : goal.add_shifted-requires-clause-within

@@ -1,6 +1,6 @@
 use Rattle.std.proofs.Common.{refl}
 use Rattle.leg_flat.proofs.MoreMetal.{adds_one}
-use Rattle.leg_flat.proofs.MetalKept.{on_ok, segment_adds}
+use Rattle.leg_flat.proofs.Registers.{on_ok, segment_adds}
 use Rattle.leg_flat.proofs.metal_wires.add_wire.Goals as goal
 
 pub returns-in-Segment : goal.returns-in-Segment

@@ -1,4 +1,4 @@
-use Rattle.leg_legal.proofs.TurnsSorted.{order_from_sort}
+use Rattle.leg_legal.proofs.TurnKeyOrder.{order_from_sort}
 use Rattle.leg_legal.proofs.turns.order_of_taking.Goals as goal
 
 pub returns : goal.returns

@@ -3,7 +3,7 @@ use Rattle.std.proofs.Common.{◌≡◌, ◌<◌, ◌≤◌, length, slice_get, 
 use Rattle.std.proofs.lemmas.Option.{slice_get_within}
 use Rattle.leg_design_records.specs.declared.limits.TheConstants.{ENTRY_LIMIT}
 use Rattle.leg_design_records.proofs.ComponentMacro.{component_read, master_read}
-use Rattle.leg_legal.proofs.TurnsSorted.{key_of_movable}
+use Rattle.leg_legal.proofs.TurnKeyOrder.{key_of_movable}
 use Rattle.leg_legal.proofs.turns.turn_key.Goals as goal
 
 pub overflow_cast-number : goal.overflow_cast-number

@@ -1,7 +1,7 @@
 -- A movable component has one more key, and one that stays has none.
 use Rattle.std.proofs.Common.{◌≡◌, length, arith}
 use Rattle.std.proofs.lemmas.Bool.{false≢true}
-use Rattle.leg_legal.proofs.TurnsSorted.{keys_none, keys_more, keys_skip}
+use Rattle.leg_legal.proofs.TurnKeyOrder.{keys_none, keys_more, keys_skip}
 use Rattle.leg_legal.proofs.turns.turn_keys.Goals as goal
 use Rattle.leg_legal.proofs.turns.turn_keys.Goals.{then-is_movable+in_ok-push, else-is_movable}
 

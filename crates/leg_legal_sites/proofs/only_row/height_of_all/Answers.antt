@@ -9,7 +9,7 @@ use Rattle.leg_design_records.specs.declared.records.Row.{Row}
 use Rattle.leg_legal_sites.specs.declared.row_keys.RowKey.{RowKey}
 use Rattle.leg_legal_sites.specs.Steps.FreeLists.{IsRowAt}
 use Rattle.leg_legal_sites.proofs.MetSites.{coordinate_passed}
-use Rattle.leg_legal_sites.proofs.RowsTaken.{nowhere, key_within}
+use Rattle.leg_legal_sites.proofs.TakenRows.{nowhere, key_within}
 use Rattle.leg_legal_sites.proofs.OnlyRow.{all_so_high}
 use Rattle.leg_legal_sites.proofs.only_row.height_of_all.Goals as goal
 

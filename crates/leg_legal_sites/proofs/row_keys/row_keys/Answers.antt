@@ -2,7 +2,7 @@
 use Rattle.std.proofs.Common.{◌≡◌, length, slice_get, Some, FitsSigned, w64, refl, arith, rules}
 use Rattle.std.proofs.lemmas.Int.{to_z-of_z}
 use Rattle.std.proofs.lemmas.Option.{slice_get_read}
-use Rattle.leg_legal_sites.proofs.KeysSorted.{keys_more}
+use Rattle.leg_legal_sites.proofs.KeyOrder.{keys_more}
 use Rattle.leg_legal_sites.proofs.row_keys.row_keys.Goals as goal
 
 pub loop-i-preserved : goal.loop-i-preserved

@@ -1,6 +1,6 @@
 use Rattle.std.proofs.Common.{◌∙◌}
 use Rattle.std.proofs.lemmas.List.Sorted.{length_permutation}
-use Rattle.leg_legal_sites.proofs.KeysSorted.{order_from_sort}
+use Rattle.leg_legal_sites.proofs.KeyOrder.{order_from_sort}
 use Rattle.leg_legal_sites.proofs.row_keys.row_order.Goals as goal
 
 pub returns : goal.returns

@@ -5,7 +5,7 @@ use Rattle.std.proofs.lemmas.Option.{slice_get-get_or, slice_get_read}
 use Rattle.leg_design_records.specs.declared.records.Row.{Row}
 use Rattle.leg_legal_sites.specs.declared.row_keys.RowKey.{RowKey}
 use Rattle.leg_legal_sites.specs.Steps.FreeListSharing.{row_lists}
-use Rattle.leg_legal_sites.proofs.RowsTaken.{nowhere, key_within}
+use Rattle.leg_legal_sites.proofs.TakenRows.{nowhere, key_within}
 use Rattle.leg_legal_sites.proofs.SharedLists.{node_read}
 use Rattle.leg_legal_sites.proofs.RowCandidates.{begin_within}
 use Rattle.leg_legal_sites.proofs.Branches.{leaf_list}

@@ -6,7 +6,7 @@ use Rattle.leg_lib_records.specs.Measure.{IsExtent}
 use Rattle.leg_design_records.specs.WellFormedParts.{IsRow}
 use Rattle.leg_legal_sites.specs.Steps.SiteBounds.{DoBound}
 use Rattle.leg_legal_sites.proofs.RowBounds.{within_die}
-use Rattle.leg_legal_sites.proofs.RowsTaken.{same_row}
+use Rattle.leg_legal_sites.proofs.TakenRows.{same_row}
 use Rattle.leg_legal_sites.proofs.row_tree.bounds_of.Goals as goal
 
 pub of_row-requires : goal.of_row-requires

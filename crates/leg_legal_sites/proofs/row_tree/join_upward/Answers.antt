@@ -1,9 +1,8 @@
 -- One more node is joined of the two below it.
-use Rattle.std.proofs.Common.{◌≡◌, ◌+◌, ◌*◌, ◌-◌, get_or, pos, arith}
-use Rattle.std.proofs.lemmas.Option.{slice_get-get_or}
+use Rattle.std.proofs.Common.{◌≡◌, ◌+◌, ◌-◌, pos, arith}
 use Rattle.leg_legal_sites.specs.declared.bounds.Bounds.{Bounds}
 use Rattle.leg_legal_sites.specs.Steps.RowTree.{AreJoinedFrom}
-use Rattle.leg_legal_sites.proofs.RowTree.{joined_none, joined_more, joined_fewer}
+use Rattle.leg_legal_sites.proofs.RowTree.{cover_below, joined_none, joined_more, joined_fewer}
 use Rattle.leg_legal_sites.proofs.row_tree.join_upward.Goals as goal
 
 abbrev none : Bounds
@@ -20,15 +19,10 @@ loop-node-preserved c =
     let room = c.requires in
     let some = c.loop-node-test.true in
     let most = c.loop-node.auto.node in
-    let left : Bounds = get_or nodes (2 * node) none in
-    let right : Bounds = get_or nodes (2 * node + 1) none in
     let next : c.loop-node.node ≡ node + 1 = omega (arith, some) in
     let so_far : AreJoinedFrom c.args.leaves (node + 1) c.args.nodes.now nodes = rw next at c.loop-node.invariant in
-    joined_more c.args.leaves node c.args.nodes.now nodes c.joined.result left right (omega (arith, some, most)) (omega (arith, some))
-    (omega (arith, some, most, count, room))
-    (slice_get-get_or nodes (2 * node) none (omega (arith, some, most, count, room)))
-    (slice_get-get_or nodes (2 * node + 1) none (omega (arith, some, most, count, room)))
-    c.joined.ensures.this c.joined.ensures.other so_far
+    joined_more c.args.leaves node c.args.nodes.now nodes c.joined.result (omega (arith, some, most)) (omega (arith, some))
+    (cover_below nodes node c.joined.result none (omega (arith, some, most, count, room)) c.joined.ensures.this c.joined.ensures.other) so_far
 
 pub returns : goal.returns
 returns c = joined_fewer c.args.leaves c.loop-node.node 1 c.args.nodes.now c.loop-node.nodes c.loop-node-test.false c.loop-node.invariant

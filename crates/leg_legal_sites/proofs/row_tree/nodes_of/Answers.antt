@@ -5,7 +5,7 @@ use Rattle.leg_legal_sites.specs.Steps.FreeLists.{DoFit}
 use Rattle.leg_legal_sites.specs.Steps.FreeListSharing.{row_lists}
 use Rattle.leg_legal_sites.specs.Steps.RowTree.{AreJoinedFrom}
 use Rattle.leg_legal_sites.proofs.RowTree.{nodes_from_joined}
-use Rattle.leg_legal_sites.proofs.RowsTaken.{row_covered}
+use Rattle.leg_legal_sites.proofs.TakenRows.{row_covered}
 use Rattle.leg_legal_sites.proofs.row_tree.nodes_of.Goals as goal
 
 pub returns : goal.returns

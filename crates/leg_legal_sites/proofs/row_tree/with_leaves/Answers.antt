@@ -6,7 +6,7 @@ use Rattle.leg_legal_sites.specs.Steps.FreeListSharing.{row_lists}
 use Rattle.leg_legal_sites.specs.Steps.RowTree.{AreLeavesUpTo}
 use Rattle.leg_legal_sites.specs.Steps.SharedLists.{own_list}
 use Rattle.leg_legal_sites.proofs.RowTree.{leaves_none, leaves_more}
-use Rattle.leg_legal_sites.proofs.RowsTaken.{nowhere, key_within}
+use Rattle.leg_legal_sites.proofs.TakenRows.{nowhere, key_within}
 use Rattle.leg_legal_sites.proofs.LeafLists.{leaf_in_die, leaf_fits}
 use Rattle.leg_legal_sites.proofs.row_tree.with_leaves.Goals as goal
 

@@ -1,7 +1,7 @@
 -- The leaf of one more row.
 use Rattle.std.proofs.Common.{◌≡◌, length, get_or, arith}
 use Rattle.std.proofs.lemmas.Option.{slice_get-get_or}
-use Rattle.leg_legal_sites.proofs.RowsTaken.{nowhere, key_within}
+use Rattle.leg_legal_sites.proofs.TakenRows.{nowhere, key_within}
 use Rattle.leg_legal_sites.proofs.LeafLists.{leaves_begin, leaf_more}
 use Rattle.leg_legal_sites.proofs.rows_inside.rows_inside.Goals as goal
 

@@ -8,7 +8,8 @@ use Rattle.leg_legal_sites.specs.Steps.FreeLists.{AreRowsOf}
 use Rattle.leg_legal_sites.specs.Steps.FreeListSharing.{list_of_node, row_lists}
 use Rattle.leg_legal_sites.specs.Steps.FreeRows.{AreTakenBeneath}
 use Rattle.leg_legal_sites.specs.Steps.SharedLists.{AreShared}
-use Rattle.leg_legal_sites.proofs.RowsTaken.{taken_beside, taken_both, rows_joined}
+use Rattle.leg_legal_sites.proofs.RowTree.{cover_below}
+use Rattle.leg_legal_sites.proofs.TakenRows.{taken_beside, taken_both, rows_joined}
 use Rattle.leg_legal_sites.proofs.SharedLists.{half_of_left, half_of_right, none_above}
 use Rattle.leg_legal_sites.proofs.rows_taken.+take_beneath.Goals as goal
 
@@ -129,10 +130,8 @@ returns g t c =
     let above : list_of_node lists node ≡ None = ap (list_of_node lists) (sym (half_of_right node)) ∙ c.in_ok-take_beneath-2.ensures.alone in
     record {
       shared = c.in_ok-take_beneath-2.ensures.shared;
-      rows = rows_joined design rect order (row_lists order lists) nodes node c.joined.result (get_or nodes (2 * node) none)
-          (get_or nodes (2 * node + 1) none) c.requires.first inner
-          (slice_get-get_or nodes (2 * node) none (omega (arith, inner, count)))
-          (slice_get-get_or nodes (2 * node + 1) none (omega (arith, inner, count))) c.joined.ensures.this c.joined.ensures.other rows;
+      rows = rows_joined design order (row_lists order lists) nodes node c.joined.result c.requires.first inner
+          (cover_below nodes node c.joined.result none (omega (arith, inner, count)) c.joined.ensures.this c.joined.ensures.other) rows;
       taken = taken_both design rect order node (row_lists order c.args.lists.now) (row_lists order c.take_beneath.new.lists)
           (row_lists order lists) inner first c.in_ok-take_beneath-2.ensures.taken;
       alone = none_above lists (node / 2) node c.requires.first refl above;

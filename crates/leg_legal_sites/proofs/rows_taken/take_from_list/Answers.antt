@@ -1,7 +1,7 @@
 -- The list loses the sites that the rectangle meets.
 use Rattle.std.proofs.Common.{◌≡◌, Some, sym, ◌∙◌}
 use Rattle.std.proofs.lemmas.Result.{on_ok_weaker}
-use Rattle.leg_legal_sites.proofs.RowsTaken.{loses_from_sites}
+use Rattle.leg_legal_sites.proofs.TakenRows.{loses_from_sites}
 use Rattle.leg_legal_sites.proofs.rows_taken.take_from_list.Goals as goal
 
 pub returns-clause-taken : goal.returns-clause-taken

@@ -25,7 +25,7 @@ returns-then-a-b-2 g c same =
       list = c.in-Some.left;
       left = left;
       right = right ∙ ap Some (sym (c.is_same.ensures same));
-      alike = alike_both order node a b inner (c.requires.shared.alike (2 * node) c.in-Some.left (omega (arith, first)) left)
-          (c.requires.shared.alike (2 * node + 1) c.in-Some-lists.right (omega arith) right) c.key_beneath-a.ensures c.key_beneath-b.ensures x
-          c.if-a-b-2.true.1;
+      alike = alike_both order node inner (c.requires.shared.alike (2 * node) c.in-Some.left (omega (arith, first)) left)
+          (c.requires.shared.alike (2 * node + 1) c.in-Some-lists.right (omega arith) right)
+          (record { a = a; b = b; on_left = c.key_beneath-a.ensures; on_right = c.key_beneath-b.ensures; x = x; site = c.if-a-b-2.true.1 });
     }

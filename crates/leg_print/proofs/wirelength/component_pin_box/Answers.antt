@@ -2,8 +2,8 @@ use Rattle.std.proofs.Common.{◌≡◌, ◌∙◌, ap}
 use Rattle.std.proofs.lemmas.Option.{slice_get_past}
 use Rattle.leg_lib_records.specs.Measure.{ExtentModel}
 use Rattle.leg_lib_records.specs.Records.{MasterModel, MasterPinModel}
-use Rattle.leg_print.proofs.BoxesKept.{register, number_kept}
-use Rattle.leg_print.proofs.TerminalsKnown.{looked_up, component_position, pin_within}
+use Rattle.leg_print.proofs.BoxRegisters.{register, number_kept}
+use Rattle.leg_print.proofs.DrawnTerminals.{looked_up, component_position, pin_within}
 use Rattle.leg_print.proofs.TerminalCentres.{no_pin, component_pin_least, sized_least}
 use Rattle.leg_print.proofs.wirelength.component_pin_box.Goals as goal
 

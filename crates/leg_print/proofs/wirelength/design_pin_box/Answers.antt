@@ -1,6 +1,6 @@
 use Rattle.std.proofs.Common.{◌≡◌, ◌∙◌, ap}
 use Rattle.leg_design_records.specs.Records.{PinModel}
-use Rattle.leg_print.proofs.TerminalsKnown.{looked_up}
+use Rattle.leg_print.proofs.DrawnTerminals.{looked_up}
 use Rattle.leg_print.proofs.TerminalCentres.{design_pin_least}
 use Rattle.leg_print.proofs.wirelength.design_pin_box.Goals as goal
 

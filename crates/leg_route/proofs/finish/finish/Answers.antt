@@ -5,7 +5,7 @@ use Rattle.leg_design_records.specs.declared.limits.TheConstants.{PART_LIMIT}
 use Rattle.leg_rules.specs.Metal.Metal.{metal_of}
 use Rattle.leg_rules.specs.Metal.Flat.{IsJudgedBy}
 use Rattle.leg_rules.specs.Legal.{IsLegal}
-use Rattle.leg_route_laws.specs.Finished.{finished}
+use Rattle.leg_route_laws.specs.FinishedDesign.{finished}
 use Rattle.leg_route.proofs.finish.finish.Goals as goal
 
 pub with_all_wires-requires-clause-few : goal.with_all_wires-requires-clause-few
@@ -22,14 +22,16 @@ with_all_wires-requires-clause-few g c =
 pub returns-in-Ok-clause-few : goal.returns-in-Ok-clause-few
 returns-in-Ok-clause-few g c =
     let it = c.requires.run in
-    let shapes = c.finished_run.ensures.shapes c.args.design it.flat it.grown it.added (map (λ wires. wires.items) c.args.lists.items) it.comes.clean.judged.is_flat it.run it.lists_are in
+    let lists = map (λ wires. wires.items) c.args.lists.items in
+    let shapes = c.finished_run.ensures.shapes c.args.design it.flat it.grown it.added lists it.comes.clean.judged.is_flat it.run it.lists_are in
     rw (c.in-Ok.ensures.added, shapes) it.within
 
 pub returns-in-Ok-clause-run : goal.returns-in-Ok-clause-run
 returns-in-Ok-clause-run g c =
     let it = c.requires.run in
-    rw c.in-Ok.ensures.added (c.finished_run.ensures.routed c.args.design it.flat it.grown it.added (map (λ wires. wires.items) c.args.lists.items) it.comes.clean.judged.is_flat it.run it.done
-    it.lists_are)
+    let lists = map (λ wires. wires.items) c.args.lists.items in
+    rw c.in-Ok.ensures.added
+    (c.finished_run.ensures.routed c.args.design it.flat it.grown it.added lists it.comes.clean.judged.is_flat it.run it.done it.lists_are)
 
 pub returns-in-Ok-clause-same : goal.returns-in-Ok-clause-same
 returns-in-Ok-clause-same g c = rw c.in-Ok.ensures.added (c.finished_run.ensures.same c.args.design (map (λ wires. wires.items) c.args.lists.items))

@@ -13,8 +13,8 @@ loop-number-preserved g c =
     record {
       begun = omega (arith, begun);
       within = omega (arith, begun, below);
-      are = numbers_next c.args.first c.loop-number.number (c.loop-number.number + 1) c.args.numbers.now c.loop-number.numbers c.push.new.self begun refl c.loop-number.invariant.are
-          c.in_ok-push.ensures.pushed;
+      are = numbers_next c.args.first c.loop-number.number (c.loop-number.number + 1) c.args.numbers.now c.loop-number.numbers c.push.new.self begun refl
+          c.loop-number.invariant.are c.in_ok-push.ensures.pushed;
     }
 
 pub returns : goal.returns

@@ -18,7 +18,8 @@ loop-shape-preserved g c =
     let boxes = c.loop-shape.found.boxes.items in
     let slots = c.loop-shape.found.slots.items in
     let after = c.add_slots_in.new.found in
-    let next : take (i + 1) metal ≡ take i metal ++ shape ∷ [] = take_more metal i shape (omega arith) ∙ ap (λ (s : PieceShape). take i metal ++ s ∷ []) (sym c.shape-item.is) in
+    let next : take (i + 1) metal ≡ take i metal ++ shape ∷ [] =
+    take_more metal i shape (omega arith) ∙ ap (λ (s : PieceShape). take i metal ++ s ∷ []) (sym c.shape-item.is) in
     let got : HaveGotSlots c.args.grid.now (LiesInRect shape.layer shape.rect) boxes slots after.boxes.items after.slots.items = record {
       are = c.in_ok-add_slots_in.ensures.added;
       within = λ all. rw c.in_ok-add_slots_in.was at (c.add_slots_in.ensures.within all);
@@ -27,7 +28,8 @@ loop-shape-preserved g c =
       behind = c.in_ok-add_slots_in.ensures.after.1;
     } in
     rw next
-    (metal_more c.args.grid.now (take i metal) shape c.args.found.now.boxes.items boxes after.boxes.items c.args.found.now.slots.items slots after.slots.items c.loop-shape.invariant got)
+    (metal_more c.args.grid.now (take i metal) shape c.args.found.now.boxes.items boxes after.boxes.items c.args.found.now.slots.items slots
+    after.slots.items c.loop-shape.invariant got)
 
 pub returns : goal.returns
 returns g c = rw (take_all c.loop-shape.shape-index c.args.metal.now (omega arith)) at c.loop-shape.invariant

@@ -15,8 +15,9 @@ loop-piece-preserved g c =
     let after = c.add_metal.new.found in
     let more : take (i + 1) pieces ≡ take i pieces ++ get_or pieces i 0 ∷ [] = take_more pieces i 0 (omega arith) in
     rw more
-    (pieces_more c.args.grid.now c.args.joins.now.metal (take i pieces) (get_or pieces i 0) c.metal_of.result.now c.metal_of.ensures c.args.found.now.boxes.items found.boxes.items after.boxes.items
-    c.args.found.now.slots.items found.slots.items after.slots.items c.loop-piece.invariant c.in_ok-add_metal.ensures)
+    (pieces_more c.args.grid.now c.args.joins.now.metal (take i pieces) (get_or pieces i 0) c.metal_of.result.now c.metal_of.ensures
+    c.args.found.now.boxes.items found.boxes.items after.boxes.items c.args.found.now.slots.items found.slots.items after.slots.items
+    c.loop-piece.invariant c.in_ok-add_metal.ensures)
 
 pub returns : goal.returns
 returns g c = rw (take_all c.loop-piece.piece-index c.args.pieces.now (omega arith)) at c.loop-piece.invariant

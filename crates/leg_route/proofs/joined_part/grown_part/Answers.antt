@@ -1,9 +1,9 @@
 use Rattle.std.proofs.Common.{◌≡◌, ◌++◌, ◌-◌, true, length, take, drop, ◌∙◌, arith}
 use Rattle.leg_route.specs.Steps.EndSlots.{MeetsPiece, IsFarSlot}
 use Rattle.leg_route.specs.Steps.NetEnds.{ends_in, AreGroupsFrom}
-use Rattle.leg_route.specs.Steps.JoinedPart.{PartModel}
 use Rattle.leg_route.specs.Steps.NetSlots.{AreMarkedSlots}
 use Rattle.leg_route.proofs.EndSlots.{was_apart, come_are, come_boxes, all_new}
+use Rattle.leg_route.proofs.JoinedParts.{part_in}
 use Rattle.leg_route.proofs.NetEnds.{near_ends_within, ends_grown}
 use Rattle.leg_route.proofs.PartMarks.{starts_grown}
 use Rattle.leg_route.proofs.joined_part.grown_part.Goals as goal
@@ -28,18 +28,10 @@ ends_left-requires-clause-boxes g c =
     let part = c.args.part in
     let old = part.slots.boxes in
     let got = c.in_ok-add_pieces.ensures in
-    let model : PartModel = record {
-      net = part.net;
-      joined = part.joined.items;
-      boxes = old.items;
-      slots = part.slots.slots.items;
-      hulls = part.hulls.items;
-      ends = ends_in part.ends;
-    } in
     let new = c.add_pieces.new.found in
     let starts : AreMarkedSlots c.args.grid.now c.args.flat.now.shapes part.joined.items true c.args.numbers.now new.boxes.items new.slots.items =
-    starts_grown c.args.grid.now c.args.flat.now c.args.numbers.now c.args.joins.now.metal c.args.come.now model c.requires.growing new.boxes.items
-    new.slots.items got in
+    starts_grown c.args.grid.now c.args.flat.now c.args.numbers.now c.args.joins.now.metal c.args.come.now (part_in part) c.requires.growing
+    new.boxes.items new.slots.items got in
     let all = c.deref-2.result.now in
     let all_is : all ≡ old.items ++ got.more = c.deref-2.ensures.value ∙ got.behind in
     let first_is : c.len-first.result ≡ length old.items = omega (arith, c.len-first.ensures, old.ok.0) in
@@ -53,14 +45,6 @@ returns-clause-is g c =
     let joined = part.joined.items in
     let growing = c.requires.growing in
     let got = c.in_ok-add_pieces.ensures in
-    let model : PartModel = record {
-      net = part.net;
-      joined = joined;
-      boxes = old.items;
-      slots = part.slots.slots.items;
-      hulls = part.hulls.items;
-      ends = ends_in part.ends;
-    } in
     let new = c.add_pieces.new.found in
     let all = c.deref-2.result.now in
     let all_is : all ≡ old.items ++ got.more = c.deref-2.ensures.value ∙ got.behind in
@@ -72,8 +56,8 @@ returns-clause-is g c =
     let long : length far ≡ part.ends.far.len = omega (arith, groups.one_each, part.ends.far.ok.0) in
     let kept : take part.ends.far.len (far ++ drop (length far) part.ends.far.items) ≡ far = all_new far part.ends.far.items part.ends.far.len long in
     record {
-      starts = starts_grown c.args.grid.now c.args.flat.now c.args.numbers.now c.args.joins.now.metal c.args.come.now model growing new.boxes.items
-          new.slots.items got;
+      starts = starts_grown c.args.grid.now c.args.flat.now c.args.numbers.now c.args.joins.now.metal c.args.come.now (part_in part) growing
+          new.boxes.items new.slots.items got;
       hulled = rw c.deref.ensures.value at c.in_ok-add_hulls.ensures;
       ends_are = rw kept
           (ends_grown c.args.grid.now c.args.flat.now part.net c.grid_is_sound.ensures.proper growing.before joined

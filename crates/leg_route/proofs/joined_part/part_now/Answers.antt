@@ -4,8 +4,7 @@ use Rattle.std.proofs.lemmas.Result.{IfOk-weaker}
 use Rattle.leg_rules.specs.Joins.Touch.{piece_count, AreJoined}
 use Rattle.leg_wire.specs.PieceMarks.{AreMarks}
 use Rattle.leg_route_laws.proofs.Within.{numbers_within}
-use Rattle.leg_route.specs.Steps.JoinedPart.{PartModel}
-use Rattle.leg_route.specs.Steps.NetEnds.{ends_in}
+use Rattle.leg_route.proofs.JoinedParts.{part_in}
 use Rattle.leg_route.proofs.PartMarks.{told_count, come_within, marks_are, growing}
 use Rattle.leg_route.proofs.joined_part.part_now.Goals as goal
 
@@ -21,23 +20,23 @@ pub mark_joined-requires-clause-within : goal.mark_joined-requires-clause-within
 mark_joined-requires-clause-within g c =
     let flat = c.args.flat.now in
     let net = c.args.net in
-    let part = c.args.part in
-    let model : PartModel = record { net = part.net; joined = part.joined.items; boxes = part.slots.boxes.items; slots = part.slots.slots.items; hulls = part.hulls.items; ends = ends_in part.ends } in
-    come_within c.args.grid.now flat net model c.args.come.now c.requires.net c.requires.part c.requires.come c.pieces_of_net.result (told_count flat net c.pieces_of_net.result c.pieces_of_net.ensures.is)
+    let count = c.pieces_of_net.result in
+    come_within c.args.grid.now flat net (part_in c.args.part) c.args.come.now c.requires.net c.requires.part c.requires.come count
+    (told_count flat net count c.pieces_of_net.ensures.is)
 
 pub grown_part-requires : goal.grown_part-requires
 grown_part-requires g c =
     let flat = c.args.flat.now in
     let net = c.args.net in
     let part = c.args.part in
-    let model : PartModel = record { net = part.net; joined = part.joined.items; boxes = part.slots.boxes.items; slots = part.slots.slots.items; hulls = part.hulls.items; ends = ends_in part.ends } in
     let after = c.mark_joined.new.joined.items in
-    let counted = told_count flat net c.pieces_of_net.result c.pieces_of_net.ensures.is in
+    let count = c.pieces_of_net.result in
+    let counted = told_count flat net count c.pieces_of_net.ensures.is in
     let had_is : c.len-had.result ≡ length part.joined.items = omega (arith, c.len-had.ensures, part.joined.ok.0) in
     record {
       growing =
-          growing c.args.grid.now flat net model c.args.come.now c.requires.net c.requires.part c.requires.come c.pieces_of_net.result after counted c.in_ok-mark_joined.ensures c.args.numbers.now
-          c.requires.numbers c.args.joins.now c.requires.of_net c.requires.joins
+          growing c.args.grid.now flat net (part_in part) c.args.come.now c.requires.net c.requires.part c.requires.come count after counted
+          c.in_ok-mark_joined.ensures c.args.numbers.now c.requires.numbers c.args.joins.now c.requires.of_net c.requires.joins
           (λ k from below. rw c.deref.ensures.value at (c.if-are_joined_from.ensures refl k (omega (arith, from, had_is)) (rw c.deref.ensures.value below)));
     }
 
@@ -48,24 +47,22 @@ pub returns-then-are_joined_from-clause-joined : goal.returns-then-are_joined_fr
 returns-then-are_joined_from-clause-joined g c =
     let flat = c.args.flat.now in
     let net = c.args.net in
-    let part = c.args.part in
-    let model : PartModel = record { net = part.net; joined = part.joined.items; boxes = part.slots.boxes.items; slots = part.slots.slots.items; hulls = part.hulls.items; ends = ends_in part.ends } in
     let after = c.mark_joined.new.joined.items in
-    let counted = told_count flat net c.pieces_of_net.result c.pieces_of_net.ensures.is in
+    let count = c.pieces_of_net.result in
+    let marks =
+    marks_are c.args.grid.now flat net (part_in c.args.part) c.args.come.now c.requires.net c.requires.part c.requires.come count after
+    (told_count flat net count c.pieces_of_net.ensures.is) c.in_ok-mark_joined.ensures in
     IfOk-weaker c.grown_part.result (λ now. now.joined.items ≡ after) (λ now. AreMarks (AreJoined flat net 0) (piece_count flat net) now.joined.items)
-    (λ now is.
-    rw is (marks_are c.args.grid.now flat net model c.args.come.now c.requires.net c.requires.part c.requires.come c.pieces_of_net.result after counted c.in_ok-mark_joined.ensures))
-    c.grown_part.ensures.joined
+    (λ now is. rw is marks) c.grown_part.ensures.joined
 
 pub returns-clause-joined : goal.returns-clause-joined
 returns-clause-joined g c =
     let flat = c.args.flat.now in
     let net = c.args.net in
-    let part = c.args.part in
-    let model : PartModel = record { net = part.net; joined = part.joined.items; boxes = part.slots.boxes.items; slots = part.slots.slots.items; hulls = part.hulls.items; ends = ends_in part.ends } in
     let after = c.mark_joined.new.joined.items in
-    let counted = told_count flat net c.pieces_of_net.result c.pieces_of_net.ensures.is in
+    let count = c.pieces_of_net.result in
+    let marks =
+    marks_are c.args.grid.now flat net (part_in c.args.part) c.args.come.now c.requires.net c.requires.part c.requires.come count after
+    (told_count flat net count c.pieces_of_net.ensures.is) c.in_ok-mark_joined.ensures in
     IfOk-weaker c.new_part.result (λ now. now.joined.items ≡ after) (λ now. AreMarks (AreJoined flat net 0) (piece_count flat net) now.joined.items)
-    (λ now is.
-    rw is (marks_are c.args.grid.now flat net model c.args.come.now c.requires.net c.requires.part c.requires.come c.pieces_of_net.result after counted c.in_ok-mark_joined.ensures))
-    c.new_part.ensures.joined
+    (λ now is. rw is marks) c.new_part.ensures.joined

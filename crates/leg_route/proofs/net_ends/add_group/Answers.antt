@@ -15,7 +15,8 @@ bound-least-requires-clause-within g c =
     let room = c.requires.group.room in
     let from = c.loop-k.auto.k in
     let there : slice_get listed k ≡ Some (get_or listed k no_end) = slice_get-get_or listed k no_end (omega (arith, room, c.loop-k-test.true)) in
-    let is_in : IsInGroup listed group (get_or listed k no_end) = record { k = k; from = omega (arith, from); below = omega (arith, c.loop-k-test.true); there = there } in
+    let is_in : IsInGroup listed group (get_or listed k no_end) =
+    record { k = k; from = omega (arith, from); below = omega (arith, c.loop-k-test.true); there = there } in
     (c.requires.group.each (get_or listed k no_end) is_in).within
 
 pub loop-k-preserved : goal.loop-k-preserved

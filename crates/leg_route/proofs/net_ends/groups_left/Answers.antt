@@ -33,7 +33,8 @@ loop-group-preserved g c =
           let low : group.least ≤ reach = omega (arith, w.if-group-reach.true) in
           rw (w.near-is, w.left-is, more)
           (record {
-            near = within_more grid joined boxes listed reach (take i far) group before near so_far.near w.add_group.new.near.items low w.in_ok-add_group.ensures;
+            near = within_more grid joined boxes listed reach (take i far) group before near so_far.near w.add_group.new.near.items low
+                w.in_ok-add_group.ensures;
             left = beyond_skip reach (take i far) left group so_far.left low;
           })
       | else-group-reach+in_ok-push w ↦

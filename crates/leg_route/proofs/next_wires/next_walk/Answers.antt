@@ -25,5 +25,6 @@ walk_further-requires-clause-ends g c =
     let joined = c.walk_near.new.part.joined.items in
     let boxes = c.in_ok-ends.ends.boxes.items in
     let ends = c.in_ok-ends.ends.slots.items in
-    let told : AreMarkedSlots grid flat.shapes joined false numbers boxes ends = rw (c.shapes-shapes.ensures.is, c.deref.ensures.value) at c.in_ok-ends.ensures in
+    let told : AreMarkedSlots grid flat.shapes joined false numbers boxes ends =
+    rw (c.shapes-shapes.ensures.is, c.deref.ensures.value) at c.in_ok-ends.ensures in
     ends_are flat c.args.net numbers c.requires.numbers joined (rw c.walk_near.ensures.same_joined c.requires.joined) grid boxes ends told

@@ -40,7 +40,8 @@ returns-clause-answer g c =
     let origin = c.as_slice.result.now in
     let origins : (n : ℕ) → Contains starts.slots.items n ↔ IsOrigin (slot_total grid) (λ n. bound_at grid origin n) n =
     rw c.as_slice.ensures.value (origins_are grid starts.boxes.items starts.slots.items given.within given.boxed) in
-    let found = found_nearest grid c.args.flat.now c.args.slots.now c.args.net origin [] c.grid_is_sound.ensures.proper c.grid_is_sound.ensures.library given.told
+    let found =
+    found_nearest grid c.args.flat.now c.args.slots.now c.args.net origin [] c.grid_is_sound.ensures.proper c.grid_is_sound.ensures.library given.told
     starts.slots.items given.are origins c.deref.result.now _ _ c.in_ok-walk.ensures.found in
     rw (c.deref.ensures.value, c.in_ok-last.ensures) at found
 

@@ -6,7 +6,8 @@ use Rattle.leg_route.proofs.routing.wires_for.Goals as goal
 
 pub returns-clause-spelled : goal.returns-clause-spelled
 returns-clause-spelled g c =
-    subst (λ design. All (λ wires. All (IsWire design.library design.vias false) wires.items) c.in_ok-lists.lists.items) c.in_ok-ground.ensures.same_design c.in_ok-lists.ensures.spelled
+    subst (λ design. All (λ wires. All (IsWire design.library design.vias false) wires.items) c.in_ok-lists.lists.items)
+    c.in_ok-ground.ensures.same_design c.in_ok-lists.ensures.spelled
 
 pub returns-in_err-lists-clause-refused : goal.returns-in_err-lists-clause-refused
 returns-in_err-lists-clause-refused g c =

@@ -1,6 +1,6 @@
 use Rattle.std.proofs.Common.{arith}
 use Rattle.std.proofs.lemmas.Option.{slice_get-get_or}
-use Rattle.leg_route_grid.proofs.OneAdded.{told_here}
+use Rattle.leg_route_grid.proofs.OneMoreShape.{told_here}
 use Rattle.leg_route_grid.proofs.NoLoss.{settled_here}
 use Rattle.leg_route_grid.proofs.added.add_at.Goals as goal
 

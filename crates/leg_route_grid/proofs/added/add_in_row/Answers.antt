@@ -1,7 +1,7 @@
 use Rattle.std.proofs.Common.{sym, ◌∙◌, arith}
 use Rattle.leg_route_grid.specs.Steps.Grid.{IsSlot}
 use Rattle.leg_route_grid.proofs.GridSlots.{lies_at}
-use Rattle.leg_route_grid.proofs.SlotsAdded.{none_among, one_among, all_among, one_slot_told, one_column}
+use Rattle.leg_route_grid.proofs.SlotsInTurn.{none_among, one_among, all_among, one_slot_told, one_column}
 use Rattle.leg_route_grid.proofs.added.add_in_row.Goals as goal
 
 pub add_at-requires-clause-on_layer : goal.add_at-requires-clause-on_layer

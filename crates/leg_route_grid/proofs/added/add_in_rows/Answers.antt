@@ -1,6 +1,6 @@
 use Rattle.std.proofs.Common.{arith}
 use Rattle.leg_route_grid.specs.Steps.SlotRanges.{IsInRow}
-use Rattle.leg_route_grid.proofs.SlotsAdded.{none_among, one_among, all_among, one_row}
+use Rattle.leg_route_grid.proofs.SlotsInTurn.{none_among, one_among, all_among, one_row}
 use Rattle.leg_route_grid.proofs.added.add_in_rows.Goals as goal
 
 pub loop-row-init : goal.loop-row-init

@@ -9,7 +9,7 @@ use Rattle.leg_route_grid.specs.declared.layers.RoutingLayer.{RoutingLayer}
 use Rattle.leg_route_grid.specs.Steps.Reaches.{AreAlong, clear_at}
 use Rattle.leg_route_grid.specs.Steps.AccessUpdates.{ArePlacesNear}
 use Rattle.leg_route_grid.proofs.MetalReach.{distance_fits, coordinate_fits, far_fits}
-use Rattle.leg_route_grid.proofs.SlotsAdded.{none_reached, rows_told, all_along}
+use Rattle.leg_route_grid.proofs.SlotsInTurn.{none_reached, rows_told, all_along}
 use Rattle.leg_route_grid.proofs.added.add_on_layer.Goals as goal
 
 pub returns-in_default : goal.returns-in_default

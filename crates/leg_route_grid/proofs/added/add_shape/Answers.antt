@@ -1,6 +1,6 @@
 use Rattle.std.proofs.Common.{arith}
 use Rattle.leg_route_grid.specs.Steps.AccessUpdates.{IsSlotOnLayer}
-use Rattle.leg_route_grid.proofs.SlotsAdded.{none_among, one_among, all_among, all_told, one_layer}
+use Rattle.leg_route_grid.proofs.SlotsInTurn.{none_among, one_among, all_among, all_told, one_layer}
 use Rattle.leg_route_grid.proofs.added.add_shape.Goals as goal
 
 pub loop-k-init : goal.loop-k-init

@@ -1,7 +1,7 @@
 use Rattle.std.proofs.Common.{◌≡◌, Some, slice_get, refl}
 use Rattle.std.proofs.lemmas.Option.{slice_get_read}
 use Rattle.leg_route_grid.proofs.StepsAt.{some_at}
-use Rattle.leg_route_grid.proofs.SlotsAdded.{without_it, told_next, told_again}
+use Rattle.leg_route_grid.proofs.SlotsInTurn.{without_it, told_next, told_again}
 use Rattle.leg_route_grid.proofs.added.add_unless_again.Goals as goal
 
 pub returns-then-is_again-clause-told : goal.returns-then-is_again-clause-told

@@ -2,7 +2,7 @@
 use Rattle.std.proofs.Common.{◌≡◌, ◌-◌, ◌<◌, Some, slice_get, refl, sym, ◌∙◌, arith}
 use Rattle.std.proofs.lemmas.Option.{same_Some, slice_get_read}
 use Rattle.leg_route_grid.proofs.SameShapes.{same_shape}
-use Rattle.leg_route_grid.proofs.SlotsAdded.{among_before}
+use Rattle.leg_route_grid.proofs.SlotsInTurn.{among_before}
 use Rattle.leg_route_grid.proofs.added.is_again.Goals as goal
 
 pub returns : goal.returns

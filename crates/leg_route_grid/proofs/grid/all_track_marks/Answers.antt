@@ -1,5 +1,5 @@
 use Rattle.std.proofs.Common.{◌++◌, ◌∷◌, [], ap, ◌∙◌, arith}
-use Rattle.leg_route_grid.proofs.GridMade.{no_tables, one_table_more, all_tables}
+use Rattle.leg_route_grid.proofs.GridParts.{no_tables, one_table_more, all_tables}
 use Rattle.leg_route_grid.proofs.grid.all_track_marks.Goals as goal
 
 pub loop-k-init : goal.loop-k-init

@@ -1,4 +1,4 @@
-use Rattle.leg_route_grid.proofs.GridMade.{AreFirstTracks}
+use Rattle.leg_route_grid.proofs.GridParts.{AreFirstTracks}
 use Rattle.leg_route_grid.proofs.grid.all_track_marks.Given as goal
 
 abbrev pub invariant-loop-k : goal.invariant-loop-k

@@ -8,5 +8,5 @@ returns-clause-spread g c =
     let here = c.args.graph.now in
     let start : ℕ = c.args.start in
     spread_entered (graph.OpenNode here) (graph.bound_of here) c.args.limit 0 (λ (_ b : ℕ). b ≡ start) start start _ _ _ _ _ _
-    (c.is_unseen.ensures.unseen c.if-not-is_unseen.false) (omega (arith, c.requires.count)) (omega arith) refl (λ a b t. t) c.is_open_node-is_open.ensures
+    (c.is_unseen.ensures.unseen c.if-not-is_unseen.false) (omega arith) refl (λ a b t. t) c.is_open_node-is_open.ensures
     c.in_ok-enter.ensures.entered

@@ -1,5 +1,5 @@
 -- The pieces are united where the rectangles join them.
-use Rattle.leg_wire.proofs.SetsTaken.{join_step}
+use Rattle.leg_wire.proofs.SetsOfPairs.{join_step}
 use Rattle.leg_wire.proofs.joining.join.Goals as goal
 
 pub returns-then-branch-clause-step : goal.returns-then-branch-clause-step

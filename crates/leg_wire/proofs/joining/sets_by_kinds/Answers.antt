@@ -2,7 +2,7 @@
 use Rattle.std.proofs.Common.{◌<◌, Contains}
 use Rattle.std.proofs.lemmas.List.Elements.{All-contains, All-weaker}
 use Rattle.leg_wire.specs.Steps.JoinSteps.{AreSomeJoined, AreSetsOf}
-use Rattle.leg_wire.proofs.SomeJoined.{some_of_kinds}
+use Rattle.leg_wire.proofs.SomeMetal.{some_of_kinds}
 use Rattle.leg_wire.proofs.joining.sets_by_kinds.Goals as goal
 
 pub sets_of_metal-requires-clause-places : goal.sets_of_metal-requires-clause-places

@@ -2,7 +2,7 @@
 use Rattle.std.proofs.Common.{◌<◌, Contains, length}
 use Rattle.std.proofs.lemmas.List.Elements.{All-contains, All-weaker}
 use Rattle.leg_wire.specs.Steps.JoinSteps.{AreSomeJoined, AreSetsOf, AreTogetherAlike, AreStaying, IsStayingMetal}
-use Rattle.leg_wire.proofs.SomeJoined.{some_of_kinds}
+use Rattle.leg_wire.proofs.SomeMetal.{some_of_kinds}
 use Rattle.leg_wire.proofs.StandIns.{sets_of_stand_ins}
 use Rattle.leg_wire.proofs.joining.sets_by_stand_ins.Goals as goal
 

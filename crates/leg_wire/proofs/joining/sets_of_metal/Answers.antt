@@ -3,7 +3,7 @@ use Rattle.std.proofs.Common.{refl}
 use Rattle.std.proofs.lemmas.List.FromFn.{length-range_with_len}
 use Rattle.leg_wire.specs.declared.joining.Joining.{Joining}
 use Rattle.leg_wire.specs.Steps.JoinSteps.{JoinState}
-use Rattle.leg_wire.proofs.SetsTaken.{sets_taken}
+use Rattle.leg_wire.proofs.SetsOfPairs.{sets_taken}
 use Rattle.leg_wire.proofs.joining.sets_of_metal.Goals as goal
 
 pub invariant_of-joining : goal.invariant_of-joining

@@ -2,7 +2,7 @@
 use Rattle.std.proofs.Common.{◌≡◌, ◌<◌, length, Contains, Some, slice_get, refl, sym, arith}
 use Rattle.std.proofs.lemmas.Option.{slice_get_read}
 use Rattle.std.proofs.lemmas.List.Elements.{All-contains}
-use Rattle.leg_wire.proofs.SomeJoined.{some_more, kept_more, alike_more, kind_among}
+use Rattle.leg_wire.proofs.SomeMetal.{some_more, kept_more, alike_more, kind_among}
 use Rattle.leg_wire.proofs.joining.unite_alike.Goals as goal
 
 pub unite_touching-requires-clause-b : goal.unite_touching-requires-clause-b

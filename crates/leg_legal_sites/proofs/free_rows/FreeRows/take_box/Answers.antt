@@ -4,7 +4,7 @@ use Rattle.std.proofs.lemmas.Bool.{eqb-true}
 use Rattle.std.proofs.lemmas.List.{take_at}
 use Rattle.leg_legal_sites.specs.Steps.FreeLists.{RowLists}
 use Rattle.leg_legal_sites.specs.Steps.FreeListSharing.{row_lists}
-use Rattle.leg_legal_sites.proofs.RowsTaken.{box_taken, box_of_none}
+use Rattle.leg_legal_sites.proofs.TakenRows.{box_taken, box_of_none}
 use Rattle.leg_legal_sites.proofs.free_rows.FreeRows.take_box.Goals as goal
 
 pub returns-then-is_empty : goal.returns-then-is_empty

@@ -1,5 +1,5 @@
 use Rattle.leg_geom.proofs.Points.{same_sides}
-use Rattle.leg_print.proofs.BoxesKept.{kept}
+use Rattle.leg_print.proofs.BoxRegisters.{kept}
 use Rattle.leg_print.proofs.wirelength_box.Bounds.centre.Goals as goal
 
 pub returns : goal.returns

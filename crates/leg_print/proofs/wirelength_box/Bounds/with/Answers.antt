@@ -1,7 +1,7 @@
 use Rattle.std.proofs.Common.{◌≡◌}
 use Rattle.leg_geom.proofs.Points.{sides, same_sides}
 use Rattle.leg_print.specs.Steps.Wirelength.{joined}
-use Rattle.leg_print.proofs.BoxesKept.{register, min_kept, max_kept, box_joined}
+use Rattle.leg_print.proofs.BoxRegisters.{register, min_kept, max_kept, box_joined}
 use Rattle.leg_print.proofs.wirelength_box.Bounds.with.Goals as goal
 
 same : (c : goal.After-max-2) → sides (register c.min.result) (register c.min-2.result) (register c.max.result)

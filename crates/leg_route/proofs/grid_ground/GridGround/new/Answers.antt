@@ -15,7 +15,8 @@ returns-clause-ready g c =
         each = λ net low. rw (← c.shapes-2.ensures.is) (c.in_ok-numbers.ensures.each net (omega (arith, low, nets)));
       };
       count = c.in_ok-marks.ensures ∙ c.size.ensures.is;
-      part_is = part_none c.in_ok-grid.grid c.args.flat _ _ _ _ _ _ c.new-3.ensures.joined c.new-3.ensures.boxes c.new-3.ensures.slots c.new-3.ensures.hulls c.new-3.ensures.ends;
+      part_is = part_none c.in_ok-grid.grid c.args.flat _ _ _ _ _ _ c.new-3.ensures.joined c.new-3.ensures.boxes c.new-3.ensures.slots
+          c.new-3.ensures.hulls c.new-3.ensures.ends;
       joins_are = tt;
       given_are = tt;
     }

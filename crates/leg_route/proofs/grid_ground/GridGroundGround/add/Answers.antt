@@ -1,7 +1,7 @@
 use Rattle.std.proofs.Common.{◌≡◌, [], ◌++◌, length, take, drop, refl, sym, ap, ◌∙◌, arith}
 use Rattle.std.proofs.Math.Seq.{take-append_seam}
 use Rattle.std.proofs.lemmas.List.{get_or_read}
-use Rattle.leg_route.specs.Steps.NetEnds.{ends_in}
+use Rattle.leg_route.proofs.JoinedParts.{part_in}
 use Rattle.leg_route.proofs.Ready.{ready_more}
 use Rattle.leg_route.proofs.grid_ground.GridGroundGround.add.Goals as goal
 
@@ -20,9 +20,13 @@ returns-clause-ready g c =
     let long : length new ≡ ground.slots.len = c.add_shapes.ensures.count ∙ c.deref_mut.ensures.len in
     let kept : take ground.slots.len (new ++ rest) ≡ new = ap (λ n. take n (new ++ rest)) (sym long) ∙ take-append_seam new rest in
     rw kept
-    (ready_more ground.design.now net c.args.wire ground.flat c.add_wire.new.self c.in_ok-add_wire.ensures.added c.own_numbers_grow.ensures c.other_numbers_stay.ensures
-    ground.grid ground.slots.items new lists c.index_mut.result.now c.note_numbers.new.numbers ground.marks (record { net = ground.part.net; joined = ground.part.joined.items; boxes = ground.part.slots.boxes.items; slots = ground.part.slots.slots.items; hulls = ground.part.hulls.items; ends = ends_in ground.part.ends })
-    ground.joins c.in_ok-self.field-0
-    c.shapes-shapes.result.now c.shapes-before.result.now c.shapes-shapes.ensures.is c.shapes-before.ensures.is c.requires.in_range ready told
+    (ready_more ground.design.now net c.args.wire ground.flat c.add_wire.new.self c.in_ok-add_wire.ensures.added c.own_numbers_grow.ensures
+    c.other_numbers_stay.ensures ground.grid ground.slots.items new lists c.index_mut.result.now c.note_numbers.new.numbers ground.marks
+    (part_in ground.part) ground.joins c.in_ok-self.field-0
+    c.shapes-shapes.result.now c.shapes-before.result.now c.shapes-shapes.ensures.is c.shapes-before.ensures.is c.requires.in_range ready
     (get_or_read lists net c.index_mut.result.now (omega (arith, c.requires.in_range, ready.numbers.one_each)) c.index_mut.ensures.value [])
-    c.in_ok-note_numbers.ensures (rw (← c.take-kept.ensures.value) c.in_ok-self.ensures))
+    (record {
+      told = told;
+      numbers = c.in_ok-note_numbers.ensures;
+      kept = rw (← c.take-kept.ensures.value) c.in_ok-self.ensures;
+    }))

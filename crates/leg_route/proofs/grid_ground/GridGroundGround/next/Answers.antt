@@ -5,9 +5,9 @@ use Rattle.leg_wire.specs.PieceMarks.{AreMarks}
 use Rattle.leg_rules.specs.Joins.Touch.{piece_count, AreJoined}
 use Rattle.leg_rules.specs.Joins.Violations.{IsOpenNet}
 use Rattle.leg_route.specs.Steps.NetSlots.{IsPartOf}
-use Rattle.leg_route.specs.Steps.JoinedPart.{PartModel, AreGivenTo}
+use Rattle.leg_route.specs.Steps.JoinedPart.{AreGivenTo}
 use Rattle.leg_route.specs.Steps.NetEnds.{ends_in}
-use Rattle.leg_route.proofs.JoinedParts.{part_of}
+use Rattle.leg_route.proofs.JoinedParts.{part_in, part_of}
 use Rattle.leg_route.proofs.KeptJoins.{given_kept}
 use Rattle.leg_route.proofs.PartMarks.{have_come, given_then, joins_given}
 use Rattle.leg_route.proofs.grid_ground.GridGroundGround.next.Goals as goal
@@ -31,10 +31,13 @@ part_now-requires-clause-numbers g c =
     rw list (numbers.each net c.requires.in_range)
 
 pub part_now-requires-clause-joins : goal.part_now-requires-clause-joins
-part_now-requires-clause-joins g c = joins_given c.args.self.now.flat c.in_ok-joins.joins c.take_joined.new.self c.in_ok-come.come.items c.in_ok-joins.ensures.of c.in_ok-come.ensures.given
+part_now-requires-clause-joins g c =
+    joins_given c.args.self.now.flat c.in_ok-joins.joins c.take_joined.new.self c.in_ok-come.come.items c.in_ok-joins.ensures.of
+    c.in_ok-come.ensures.given
 
 pub part_now-requires-clause-part : goal.part_now-requires-clause-part
-part_now-requires-clause-part g c = c.of_net-part.ensures.is c.args.self.now.grid c.args.self.now.flat (rw c.replace-part.ensures.value c.requires.ready.part_is)
+part_now-requires-clause-part g c =
+    c.of_net-part.ensures.is c.args.self.now.grid c.args.self.now.flat (rw c.replace-part.ensures.value c.requires.ready.part_is)
 
 pub part_now-requires-clause-come : goal.part_now-requires-clause-come
 part_now-requires-clause-come g c =
@@ -43,10 +46,12 @@ part_now-requires-clause-come g c =
     let net = c.args.net in
     let joins = c.in_ok-joins.joins in
     let come = c.in_ok-come.come.items in
-    let part : PartModel = record { net = ground.part.net; joined = ground.part.joined.items; boxes = ground.part.slots.boxes.items; slots = ground.part.slots.slots.items; hulls = ground.part.hulls.items; ends = ends_in ground.part.ends } in
-    let given : AreGivenTo part joins = given_kept part ground.joins joins c.requires.ready.given_are (rw c.take-kept.ensures.value at c.in_ok-joins.ensures.given) in
+    let part = part_in ground.part in
+    let given : AreGivenTo part joins =
+    given_kept part ground.joins joins c.requires.ready.given_are (rw c.take-kept.ensures.value at c.in_ok-joins.ensures.given) in
     rw c.deref.ensures.value
-    (have_come ground.grid flat net part joins come c.requires.ready.part_is c.in_ok-joins.ensures.net given (c.in_ok-come.ensures.joined flat c.in_ok-joins.ensures.of) c.of_net-part.result.joined.items
+    (have_come ground.grid flat net part joins come c.requires.ready.part_is c.in_ok-joins.ensures.net given
+    (c.in_ok-come.ensures.joined flat c.in_ok-joins.ensures.of) c.of_net-part.result.joined.items
     (λ same. rw (c.of_net-part.ensures.same (rw c.replace-part.ensures.value same), c.replace-part.ensures.value) refl))
 
 pub next_wires-requires-clause-numbers : goal.next_wires-requires-clause-numbers
@@ -65,7 +70,7 @@ pub returns-then-not-is_one_apart-clause-ready : goal.returns-then-not-is_one_ap
 returns-then-not-is_one_apart-clause-ready g c =
     let ground = c.args.self.now in
     let ready = c.requires.ready in
-    let part : PartModel = record { net = ground.part.net; joined = ground.part.joined.items; boxes = ground.part.slots.boxes.items; slots = ground.part.slots.slots.items; hulls = ground.part.hulls.items; ends = ends_in ground.part.ends } in
+    let given = rw c.take-kept.ensures.value at c.in_ok-joins.ensures.given in
     record {
       of_design = ready.of_design;
       told = ready.told;
@@ -74,7 +79,7 @@ returns-then-not-is_one_apart-clause-ready g c =
       count = ready.count;
       part_is = ready.part_is;
       joins_are = c.in_ok-joins.ensures.of;
-      given_are = given_kept part ground.joins c.in_ok-joins.joins ready.given_are (rw c.take-kept.ensures.value at c.in_ok-joins.ensures.given);
+      given_are = given_kept (part_in ground.part) ground.joins c.in_ok-joins.joins ready.given_are given;
     }
 
 pub returns-clause-ready : goal.returns-clause-ready
@@ -99,9 +104,9 @@ returns-clause-ready g c =
     let had : IsPartOf ground.grid flat net joined (get_or lists net []) boxes slots hulls ends = rw list at c.in_ok-wires.ensures.part in
     let joins = c.in_ok-joins.joins in
     let come = c.in_ok-come.come.items in
-    let before : PartModel = record { net = ground.part.net; joined = ground.part.joined.items; boxes = ground.part.slots.boxes.items; slots = ground.part.slots.slots.items; hulls = ground.part.hulls.items; ends = ends_in ground.part.ends } in
-    let now : PartModel = record { net = part.net; joined = joined; boxes = boxes; slots = slots; hulls = hulls; ends = ends } in
-    let given : AreGivenTo before joins = given_kept before ground.joins joins ready.given_are (rw c.take-kept.ensures.value at c.in_ok-joins.ensures.given) in
+    let before = part_in ground.part in
+    let given : AreGivenTo before joins =
+    given_kept before ground.joins joins ready.given_are (rw c.take-kept.ensures.value at c.in_ok-joins.ensures.given) in
     record {
       of_design = ready.of_design;
       told = ready.told;
@@ -110,8 +115,9 @@ returns-clause-ready g c =
       count = c.next_wires.ensures.count ∙ ready.count;
       part_is = rw of_net (part_of flat net (get_or lists net []) numbers joined (omega (arith, count)) ground.grid boxes slots hulls ends marks had);
       joins_are = joins_given flat joins c.take_joined.new.self come c.in_ok-joins.ensures.of c.in_ok-come.ensures.given;
-      given_are = given_then ground.grid flat net before joins come ready.part_is c.in_ok-joins.ensures.net given (c.in_ok-come.ensures.joined flat c.in_ok-joins.ensures.of) joined c.take_joined.new.self now
-          marks of_net refl c.in_ok-come.ensures.given;
+      given_are = given_then ground.grid flat net before joins come ready.part_is c.in_ok-joins.ensures.net given
+          (c.in_ok-come.ensures.joined flat c.in_ok-joins.ensures.of) joined c.take_joined.new.self (part_in part) marks of_net refl
+          c.in_ok-come.ensures.given;
     }
 
 pub returns-clause-step : goal.returns-clause-step
@@ -120,5 +126,6 @@ returns-clause-step g c =
     let flat = c.args.self.now.flat in
     let net = c.args.net in
     let in_range : c.in_ok-joins.joins.net < length design.nets = rw c.in_ok-joins.ensures.net c.requires.in_range in
-    let is_open : IsOpenNet design flat net = rw c.in_ok-joins.ensures.net at ((c.is_one_apart.ensures design flat in_range c.in_ok-joins.ensures.of).0 c.if-not-is_one_apart.false) in
+    let is_open : IsOpenNet design flat net =
+    rw c.in_ok-joins.ensures.net at ((c.is_one_apart.ensures design flat in_range c.in_ok-joins.ensures.of).0 c.if-not-is_one_apart.false) in
     c.step_by.ensures design flat net is_open c.in_ok-wires.ensures.answer

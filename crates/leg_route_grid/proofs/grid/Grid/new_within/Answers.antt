@@ -4,7 +4,7 @@ use Rattle.leg_route_grid.specs.Steps.Grid.{AreTracks, AreViasFrom}
 use Rattle.leg_route_grid.specs.Steps.LayerList.{routing_from}
 use Rattle.leg_route_grid.proofs.GridValues.{xs_within, ys_within}
 use Rattle.leg_route_grid.proofs.RoutingLayers.{layers_are}
-use Rattle.leg_route_grid.proofs.GridMade.{not_beyond, beyond}
+use Rattle.leg_route_grid.proofs.GridParts.{not_beyond, beyond}
 use Rattle.leg_route_grid.proofs.grid.Grid.new_within.Goals as goal
 
 pub returns-then-not-fits-clause-large : goal.returns-then-not-fits-clause-large

@@ -1,7 +1,7 @@
 -- The pieces of the pair have their places in the sets.
 use Rattle.std.proofs.Common.{arith}
 use Rattle.std.proofs.lemmas.Result.{on_ok_weaker}
-use Rattle.leg_wire.proofs.SetsTaken.{take_step}
+use Rattle.leg_wire.proofs.SetsOfPairs.{take_step}
 use Rattle.leg_wire.proofs.joining.JoiningPairSink.take.Goals as goal
 
 pub returns-clause-taken : goal.returns-clause-taken

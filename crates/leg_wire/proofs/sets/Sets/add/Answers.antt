@@ -2,7 +2,7 @@
 use Rattle.std.proofs.Common.{◌≡◌, ◌<◌, ◌^◌, ◌++◌, ◌∷◌, [], length, refl, arith}
 use Rattle.leg_wire.specs.Steps.NumberSets.{roots_of}
 use Rattle.leg_wire.proofs.SetRoots.{length-roots_of, roots_push}
-use Rattle.leg_wire.proofs.SetsUnited.{one_number_more, roots_low}
+use Rattle.leg_wire.proofs.SetUnions.{one_number_more, roots_low}
 use Rattle.leg_wire.proofs.sets.Sets.add.Goals as goal
 
 pub overflow_cast-number : goal.overflow_cast-number

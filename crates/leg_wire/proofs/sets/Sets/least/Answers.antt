@@ -2,7 +2,7 @@
 use Rattle.std.proofs.Common.{◌<◌, length, arith}
 use Rattle.leg_wire.specs.Steps.NumberSets.{roots_of}
 use Rattle.leg_wire.proofs.SetRoots.{length-roots_of}
-use Rattle.leg_wire.proofs.SetsUnited.{root_known}
+use Rattle.leg_wire.proofs.SetUnions.{root_known}
 use Rattle.leg_wire.proofs.sets.Sets.least.Goals as goal
 
 pub root-requires-clause-within : goal.root-requires-clause-within

@@ -2,7 +2,7 @@
 use Rattle.std.proofs.Common.{◌≡◌, ◌<◌, false, length, get_or, nat_eq, ◌∙◌, arith}
 use Rattle.std.proofs.lemmas.List.{get_or_read}
 use Rattle.leg_wire.specs.Steps.NumberSets.{AreParents, roots_of}
-use Rattle.leg_wire.proofs.SetsUnited.{mark_by_parent, mark_of_own, marks_more, marks_done}
+use Rattle.leg_wire.proofs.SetUnions.{mark_by_parent, mark_of_own, marks_more, marks_done}
 use Rattle.leg_wire.proofs.sets.Sets.marks.Goals as goal
 use Rattle.leg_wire.proofs.sets.Sets.marks.Goals.{then-parent-number, else-parent-number}
 

@@ -1,5 +1,5 @@
 -- The numbers so far have their marks.
-use Rattle.leg_wire.proofs.SetsUnited.{AreMarksSoFar}
+use Rattle.leg_wire.proofs.SetUnions.{AreMarksSoFar}
 use Rattle.leg_wire.proofs.sets.Sets.marks.Given as goal
 
 abbrev pub invariant-loop-number : goal.invariant-loop-number

@@ -2,7 +2,7 @@
 use Rattle.std.proofs.Common.{◌≡◌, refl, arith}
 use Rattle.leg_wire.specs.Steps.NumberSets.{AreParents, roots_of}
 use Rattle.leg_wire.proofs.SetRoots.{roots_begun, roots_done}
-use Rattle.leg_wire.proofs.SetsUnited.{firsts_are}
+use Rattle.leg_wire.proofs.SetUnions.{firsts_are}
 use Rattle.leg_wire.proofs.sets.Sets.roots.Goals as goal
 
 pub loop-parent-init : goal.loop-parent-init

@@ -1,7 +1,7 @@
 -- The higher of the two roots gets the lower one as its parent.
 use Rattle.std.proofs.Common.{◌≡◌, ◌<◌, ◌∙◌, length, Some, slice_get, rules}
 use Rattle.leg_wire.specs.Steps.NumberSets.{roots_of}
-use Rattle.leg_wire.proofs.SetsUnited.{united, united_merged, root_bound}
+use Rattle.leg_wire.proofs.SetUnions.{united, united_merged, root_bound}
 use Rattle.leg_wire.proofs.sets.Sets.unite.Goals as goal
 
 pub index_mut-requires : goal.index_mut-requires

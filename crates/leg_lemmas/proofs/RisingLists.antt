@@ -2,7 +2,7 @@
 use Rattle.std.proofs.Common.{◌≡◌, zero, suc, List, [], ◌∷◌, ◌++◌, map, All, AllPairs, Contains, inl, inr, refl, sym, arith}
 use Rattle.std.proofs.lemmas.List.Elements.{All-append, All-contains, All-head, All-tail, All-map, All-weaker}
 use Rattle.std.proofs.lemmas.List.Kept.{AllPairs-cons}
-use Rattle.leg_lemmas.proofs.Contained.{Contains-nil, Contains-here, Contains-there, Contains-cons_cases}
+use Rattle.leg_lemmas.proofs.Contents.{Contains-nil, Contains-here, Contains-there, Contains-cons_cases}
 
 module _ {X : Type 0} (R : X → X → Type 0) where
   pub AllPairs-nil : AllPairs R []

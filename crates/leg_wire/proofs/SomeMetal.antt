@@ -11,7 +11,7 @@ use Rattle.leg_wire.specs.Steps.NumberSets.{AreTogether, AreUnited}
 use Rattle.leg_wire.specs.Steps.PieceMetal.{LiesAmong, TouchAmong}
 use Rattle.leg_wire.specs.Steps.JoinSteps.{IsTouchStep, AreSomeJoined, AreSetsOf, AreKept, AreTogetherAlike}
 use Rattle.leg_wire.specs.Steps.JoinSteps.IsTouchStep.{stay, touch}
-use Rattle.leg_wire.proofs.SetsUnited.{AreTogether-itself}
+use Rattle.leg_wire.proofs.SetUnions.{AreTogether-itself}
 use Rattle.leg_wire.proofs.JoinedLaws.{Joined-onward}
 use Rattle.leg_wire.proofs.PiecesTouch.{TouchAmong-back, touch_by_two}
 

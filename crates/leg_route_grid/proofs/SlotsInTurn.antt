@@ -2,6 +2,7 @@
 use Rattle.std.proofs.Common.{◌≡◌, ℕ, ◌+◌, ◌-◌, ◌*◌, ◌<◌, ◌≤◌, ◌⊎◌, inl, inr, ℤ, pos, ◌+ℤ◌, ◌-ℤ◌, Bool, true, List, [], ◌∷◌, ◌++◌, ◌/◌, ◌%◌, length, take, get_or, Contains, None, Some, slice_get, refl, sym, ap, subst, ◌∙◌, append_assoc, arith, length-take, get_or-take}
 use Rattle.std.specs.Prelude.{Option}
 use Rattle.std.proofs.lemmas.Bool.{cases_eq, cases_lt}
+use Rattle.std.proofs.lemmas.Nat.{same_from_place}
 use Rattle.std.proofs.lemmas.List.{take_more}
 use Rattle.std.proofs.lemmas.List.Elements.{Contains-append_right}
 use Rattle.std.proofs.lemmas.Option.{same_Some, slice_get_within, get_or_from_slice_get}
@@ -14,7 +15,7 @@ use Rattle.leg_route_grid.specs.Steps.AccessTable.{IsSlotAccess, IsAccessTable}
 use Rattle.leg_route_grid.specs.Steps.Reaches.{ReachesMetal, AreNearLayers, AreAlong, clear_at}
 use Rattle.leg_route_grid.specs.Steps.SlotRanges.{IsSlotAmong, IsInRow, IsInRows}
 use Rattle.leg_route_grid.specs.Steps.AccessUpdates.{HasShape, IsAccessAfter, AreAccessAfter, ArePlacesNear, IsSlotOnLayer}
-use Rattle.leg_route_grid.proofs.Slots.{one_rest, by_division}
+use Rattle.leg_route_grid.proofs.Slots.{by_division}
 use Rattle.leg_route_grid.proofs.StepsAt.{some_at}
 use Rattle.leg_route_grid.proofs.FarSlots.{IsPast, IsSlotPast}
 use Rattle.leg_route_grid.proofs.FarAccess.{far_access}
@@ -28,8 +29,8 @@ pub record IsSameSlot (k j i l r c : ℕ) : Type 0 where
 
 pub same_slot : (grid : GridModel) (n k j i l r c : ℕ) → IsSlot grid n k j i → IsSlot grid n l r c → IsSameSlot k j i l r c
 same_slot grid n k j i l r c slot other =
-    let lines = one_rest (length grid.xs) (k * length grid.ys + j) (l * length grid.ys + r) i c slot.column other.column (sym slot.is ∙ other.is) in
-    let rows = one_rest (length grid.ys) k l j r slot.row other.row lines.0 in
+    let lines = same_from_place (k * length grid.ys + j) i (l * length grid.ys + r) c (length grid.xs) slot.column other.column (sym slot.is ∙ other.is) in
+    let rows = same_from_place k j l r (length grid.ys) slot.row other.row lines.0 in
     record { layer = rows.0; row = rows.1; column = lines.1 }
 
 -- no place near, and past all that are

@@ -14,7 +14,7 @@ use Rattle.leg_design_records.specs.WellFormedParts.{IsPosition, IsComponent}
 use Rattle.leg_design_records.specs.WellFormed.{IsWellFormed}
 use Rattle.leg_flat.specs.Steps.Bounds.{IsDrawnWithin}
 use Rattle.leg_flat.specs.Steps.AddedMetal.{AreDrawnWithin, IsPlaceWithin}
-use Rattle.leg_flat.proofs.MetalKnown.{drawn_of_sums, placed_within}
+use Rattle.leg_flat.proofs.DrawnMetal.{drawn_of_sums, placed_within}
 
 position : (o : Option Place) (place : Place) → o ≡ Some place → IsPlaceWithin o → IsPosition place.at
 position o place is within = let at = rw is at within in at

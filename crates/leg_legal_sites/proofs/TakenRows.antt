@@ -22,7 +22,7 @@ use Rattle.leg_legal_sites.specs.Steps.FreeRows.{LosesMet, AreTakenBeneath, AreT
 use Rattle.leg_legal_sites.specs.Steps.SharedLists.{LosesShared}
 use Rattle.leg_legal_sites.proofs.FreeLists.{outside, beside}
 use Rattle.leg_legal_sites.proofs.RowBounds.{bound_fewer, bound_more, unmet_beside}
-use Rattle.leg_legal_sites.proofs.RowTree.{leaf_beneath_first, beneath_either, nodes_set, fits_joined}
+use Rattle.leg_legal_sites.proofs.RowTree.{DoCoverBelow, leaf_beneath_first, beneath_either, nodes_set, fits_joined}
 
 -- a number has one row, and that one site
 pub same_row : (design : DesignModel) (number : ℕ) (row other : Row) (site its : Site) → IsRowAt design number row site → IsRowAt design number other its
@@ -55,6 +55,18 @@ pub row_covered : (design : DesignModel) (lists : List (List Stretch)) (outer in
     → DoFit design lists inner number → DoFit design lists outer number
 row_covered design lists outer inner number cover fits list there row site at =
     bound_more number row site.size outer inner list cover (fits list there row site at)
+
+-- a node is joined anew of the two below it
+pub rows_joined : (design : DesignModel) (order : List RowKey) (lists : List (List Stretch)) (nodes : List Bounds) (node : ℕ) (outer : Bounds) → 1 ≤ node
+    → node < length order → DoCoverBelow nodes node outer → AreRowsOf design (record { lists = lists; order = order; nodes = nodes })
+    → AreRowsOf design (record { lists = lists; order = order; nodes = set nodes node outer })
+rows_joined design order lists nodes node outer some inner below rows = record {
+  lists = rows.lists;
+  inside = rows.inside;
+  order = rows.order;
+  nodes = nodes_set order (DoFit design lists) nodes node outer
+      (fits_joined order (DoFit design lists) (row_covered design lists) nodes node outer rows.nodes some inner below) rows.nodes;
+}
 
 module _ (design : DesignModel) (rect : RectModel) where
   -- what is left of a list lies among what there was, where the row of this number has a site
@@ -132,21 +144,6 @@ module _ (design : DesignModel) (rect : RectModel) where
       both number a m b (inl loses) more = inl (one_then number a m b loses more)
       both number a m b (inr same) (inl more) = inl (rw same at more)
       both number a m b (inr same) (inr kept) = inr (kept ∙ same)
-
-    -- a node is joined anew of the two below it
-    pub rows_joined : (lists : List (List Stretch)) (nodes : List Bounds) (node : ℕ) (outer left right : Bounds) → 1 ≤ node → node < length order
-        → slice_get nodes (2 * node) ≡ Some left → slice_get nodes (2 * node + 1) ≡ Some right → DoCover outer left → DoCover outer right
-        → AreRowsOf design (record { lists = lists; order = order; nodes = nodes })
-        → AreRowsOf design (record { lists = lists; order = order; nodes = set nodes node outer })
-    rows_joined lists nodes node outer left right some below at_left at_right over_left over_right rows = record {
-      lists = rows.lists;
-      inside = rows.inside;
-      order = rows.order;
-      nodes = nodes_set order (DoFit design lists) nodes node outer
-          (fits_joined order (DoFit design lists) (row_covered design lists) nodes node outer left right rows.nodes some below at_left at_right over_left
-          over_right)
-          rows.nodes;
-    }
 
     -- beneath the first node lie all rows
     pub all_taken : (old new : List (List Stretch)) → IsRowOrder design.rows order → AreTakenBeneath design rect order 1 old new → AreTaken design rect old new

@@ -13,7 +13,7 @@ use Rattle.leg_grammar.specs.Def.NetScope.{NetScopeModel}
 use Rattle.leg_design_records.specs.Records.{PinModel, NetModel, net_names}
 use Rattle.leg_grammar.specs.Def.LonePins.{NetLists, is_listed, to_entry, to_named, with_lone_pin, with_lone_pins}
 use Rattle.leg_design_records.specs.WellFormedNets.{IsInSomeNet}
-use Rattle.leg_design_nets.proofs.ReadListed.{Lists, listed, not_listed}
+use Rattle.leg_design_nets.proofs.TerminalsOfEntries.{Lists, listed, not_listed}
 use Rattle.leg_design_nets.proofs.ReadLonePins.{both, HasEntries, AreGrown, to_nets, to_special}
 
 -- a name that isn't among either names isn't among both

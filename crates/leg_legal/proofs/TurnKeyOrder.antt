@@ -13,8 +13,8 @@ use Rattle.std.proofs.lemmas.List.Quantifiers.{all_pairs_push}
 use Rattle.std.proofs.lemmas.List.Sorted.{ranks_by, sorted_far, All-permutation, Contains-permutation, IsPermutation-map}
 use Rattle.std.proofs.lemmas.Map.Keys.{IsDistinct-from_apart, apart_from_distinct, IsDistinct-IsPermutation}
 use Rattle.std.proofs.lemmas.Option.{same_Some, slice_get_within}
-use Rattle.leg_lemmas.proofs.Contained.{Contains-map}
-use Rattle.leg_lemmas.proofs.Rising.{AllPairs-map_where}
+use Rattle.leg_lemmas.proofs.Contents.{Contains-map}
+use Rattle.leg_lemmas.proofs.RisingLists.{AllPairs-map_where}
 use Rattle.leg_design_records.specs.Records.{DesignModel}
 use Rattle.leg_lib_records.specs.Records.{MasterModel}
 use Rattle.leg_design_records.specs.declared.records.Component.{Component}
