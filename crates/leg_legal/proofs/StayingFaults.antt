@@ -1,10 +1,10 @@
 -- The violations that concern only components that stay, by marks.
-use Rattle.std.proofs.Common.{◌≡◌, ◌↔◌, ℕ, ◌+◌, ◌<◌, Bool, true, false, not, IsTrue, List, [], ◌∷◌, ◌++◌, length, Some, slice_get, refl, sym, ap, ◌∙◌, inl, inr, arith}
+use Rattle.std.proofs.Common.{◌≡◌, ◌↔◌, ℕ, ◌+◌, Bool, true, false, not, IsTrue, List, [], ◌∷◌, ◌++◌, length, Some, slice_get, refl, sym, ap, ◌∙◌, inl, inr, arith}
 use Rattle.std.proofs.lemmas.Bool.{cases_lt, false≢true}
-use Rattle.std.proofs.lemmas.List.{length_push, get_or_push}
+use Rattle.std.proofs.lemmas.List.{length_push}
 use Rattle.std.proofs.lemmas.List.Elements.{All-weaker}
-use Rattle.std.proofs.lemmas.Option.{same_Some, slice_get_within, slice_get-get_or}
-use Rattle.leg_lemmas.proofs.Places.{in_first}
+use Rattle.std.proofs.lemmas.Option.{same_Some, slice_get_within}
+use Rattle.leg_lemmas.proofs.Places.{in_first, get_last}
 use Rattle.leg_design_records.specs.Records.{DesignModel}
 use Rattle.leg_design_records.specs.declared.fault.Fault.{Fault}
 use Rattle.leg_design_records.specs.Violation.{IsListOf}
@@ -20,18 +20,14 @@ mark_of : (b : Bool) {Moves : Type 0} → IsTrue b ↔ Moves → (not b ≡ true
 mark_of true test = (λ t. absurd (false≢true t), λ stays. absurd (stays (test.0 refl)))
 mark_of false test = (λ t m. false≢true (test.1 m), λ stays. refl)
 
-get_last : {X : Type 0} (xs : List X) (x : X) (i : ℕ) → length xs ≡ i → slice_get (xs ++ x ∷ []) i ≡ Some x
-get_last xs x i count =
-    let within : i < length (xs ++ x ∷ []) = rw (length_push xs x) (omega (arith, count)) in
-    slice_get-get_or (xs ++ x ∷ []) i x within ∙ ap Some (get_or_push xs x x i count)
-
 -- the mark at the end
 told_at_end : (marks : List Bool) (m : Bool) (i : ℕ) {Stays : Type 0} → length marks ≡ i → (m ≡ true) ↔ Stays
     → (slice_get (marks ++ m ∷ []) i ≡ Some true) ↔ Stays
-told_at_end marks m i count test = (
-  λ t. test.0 (same_Some m true (sym (get_last marks m i count) ∙ t)),
-  λ stays. get_last marks m i count ∙ ap Some (test.1 stays),
-)
+told_at_end marks m i count test =
+    let last : slice_get (marks ++ m ∷ []) i ≡ Some m = rw (← count) (get_last marks m) in (
+      λ t. test.0 (same_Some m true (sym last ∙ t)),
+      λ stays. last ∙ ap Some (test.1 stays),
+    )
 
 module _ (design : DesignModel) where
   pub marks_none : (marks : List Bool) → marks ≡ [] → AreMarksBelow design 0 marks

@@ -2,9 +2,10 @@
 
 mod commands;
 mod comparisons;
+mod runs;
 
-use commands::Asked;
 use leg_app::Command;
+use runs::Asked;
 use std::alloc::{Allocator, Global};
 use test_alloc::RefusingAlloc;
 use test_texts::{around_an_obstruction, in_a_blockage, net_at_one_place, two_at_one_place};
@@ -27,7 +28,7 @@ fn are_commands_right<A: Allocator + Copy>(
     def: &[u8],
 ) -> bool {
     for command in COMMANDS {
-        if !commands::goes_right(alloc, held, refusing, Asked { command, def }) {
+        if !commands::goes_right(alloc, held, refusing, Asked::Run(command, def)) {
             return false;
         }
     }

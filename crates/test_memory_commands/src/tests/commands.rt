@@ -1,40 +1,9 @@
 //! The commands.
 
-use leg_app::{Command, RunFault, Status, run};
+use super::runs::{Answered, Asked, ran};
 use std::alloc::{Allocator, Global};
 use test_alloc::{Refused, RefusingAlloc, Turn, Turns};
 use test_memory::is_last;
-use test_texts::cells;
-
-/// A command, and the DEF that it is given.
-#[derive(Clone, Copy)]
-pub(super) struct Asked<'t> {
-    pub(super) command: Command,
-    pub(super) def: &'t [u8],
-}
-
-/// How a run ended, and what it wrote.
-#[derive(Drop)]
-struct Answered {
-    ended: Result<Status, RunFault>,
-    turn: Turn,
-    out: Vec<u8>,
-}
-
-/// Runs the command, which writes into a list that is never refused.
-fn ran<A: Allocator + Copy>(
-    alloc: A,
-    held: Global,
-    refusing: &RefusingAlloc<Global>,
-    asked: Asked<'_>,
-    refused: Refused,
-) -> Answered {
-    let mut out = Vec::new(held);
-    refusing.refuse(refused);
-    let ended = run(alloc, asked.command, &[cells()], asked.def, &mut out);
-    let turn = refusing.turn_ended(ended == Ok(Status::Memory));
-    Answered { ended, turn, out }
-}
 
 fn turn_of<A: Allocator + Copy>(
     alloc: A,

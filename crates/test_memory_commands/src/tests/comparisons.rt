@@ -1,10 +1,11 @@
 //! Two designs that are compared.
 
-use leg_app::{RunFault, Status, run_compare};
+use super::runs::{Answered, Asked, ran};
+use leg_app::Status;
 use std::alloc::{Allocator, Global};
-use test_alloc::{Refused, RefusingAlloc, Turn, Turns};
+use test_alloc::{Refused, RefusingAlloc, Turns};
 use test_memory::is_last;
-use test_texts::{after_changes, before_changes, cells};
+use test_texts::{after_changes, before_changes};
 
 /// What a comparison says of the two texts.
 const LINES: &[u8] = b"DIFFERS DIEAREA
@@ -17,37 +18,6 @@ CHANGED NET n1 MOREWIRES
 CHANGED NET n2 TERMINALS
 differs 8
 ";
-
-/// How a comparison ended, and what it wrote.
-#[derive(Drop)]
-struct Answered {
-    ended: Result<Status, RunFault>,
-    turn: Turn,
-    out: Vec<u8>,
-}
-
-/// Runs the comparison, which writes into a list that is never refused.
-fn ran<A: Allocator + Copy>(
-    alloc: A,
-    held: Global,
-    refusing: &RefusingAlloc<Global>,
-    refused: Refused,
-) -> Answered {
-    let mut out = Vec::new(held);
-    refusing.refuse(refused);
-    let ended = match run_compare(
-        alloc,
-        &[cells()],
-        before_changes(),
-        after_changes(),
-        &mut out,
-    ) {
-        Ok(end) => Ok(end.status),
-        Err(fault) => Err(fault),
-    };
-    let turn = refusing.turn_ended(ended == Ok(Status::Memory));
-    Answered { ended, turn, out }
-}
 
 /// Whether the run answers what it is to answer, or that memory ran out.
 fn is_right(run: &Answered) -> bool {
@@ -64,9 +34,10 @@ pub(super) fn goes_right<A: Allocator + Copy>(
     held: Global,
     refusing: &RefusingAlloc<Global>,
 ) -> bool {
+    let asked = Asked::Compare(before_changes(), after_changes());
     let mut turns = Turns::new();
     for number in 1..Turns::LIMIT {
-        let run = ran(alloc, held, refusing, Refused::Growth(number));
+        let run = ran(alloc, held, refusing, asked, Refused::Growth(number));
         let turn = is_right(&run).then_some(run.turn);
         match is_last(&mut turns, number, turn) {
             Some(false) => {}
