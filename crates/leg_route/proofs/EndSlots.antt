@@ -4,9 +4,9 @@ use Rattle.std.proofs.Math.Nat.{min-le_right}
 use Rattle.std.proofs.lemmas.Bool.{cases_Bool, cases_lt}
 use Rattle.std.proofs.Math.Seq.{take-append_seam, drop-append_seam}
 use Rattle.std.proofs.lemmas.List.{length-drop, take_all}
-use Rattle.std.proofs.lemmas.List.Elements.{All-contains, Contains-append_left, Contains-append_right, Contains-append_cases, Contains-push, Contains-push_cases}
+use Rattle.std.proofs.lemmas.List.Elements.{All-contains, Contains-append_left, Contains-append_right, Contains-push, Contains-push_cases}
 use Rattle.std.proofs.lemmas.Option.{same_Some, slice_get_within, slice_get_read, slice_get-get_or}
-use Rattle.leg_sweep.proofs.Lists.{All-from_contains, Contains-map}
+use Rattle.leg_sweep.proofs.Lists.{All-from_contains}
 use Rattle.leg_rules.specs.declared.shape.Shape.{Shape}
 use Rattle.leg_rules.specs.declared.node.Node.{Node}
 use Rattle.leg_rules.specs.Metal.Flat.{FlatModel}
@@ -16,30 +16,64 @@ use Rattle.leg_route_grid.specs.Steps.Grid.{GridModel, IsNumberOf, slot_total}
 use Rattle.leg_route_grid.specs.Steps.NodeNumbers.{IsOneOf}
 use Rattle.leg_route_grid.specs.Steps.NodesInRect.{LiesInRect}
 use Rattle.leg_wire.specs.NetShapes.{AreNumbersOf}
-use Rattle.leg_wire.specs.PieceMarks.{AreMarks}
-use Rattle.leg_rules.specs.Joins.Touch.{piece_count, AreJoined}
+use Rattle.leg_wire.specs.PieceMarks.{AreMarks, AreFirsts}
+use Rattle.leg_rules.specs.Joins.Touch.{piece_count, Touch, AreJoined}
+use Rattle.leg_wire.proofs.JoinedLaws.{Joined-onward, AreJoined-symmetric}
+use Rattle.leg_wire.specs.Steps.NumberSets.{AreTogether}
 use Rattle.leg_rules.specs.Route.Meets.{MeetsRest}
-use Rattle.leg_route_laws.proofs.Places.{comes_from}
+use Rattle.leg_lemmas.proofs.Places.{comes_from}
 use Rattle.leg_route.specs.Steps.NetSlots.{MeetsMarked}
 use Rattle.leg_route.proofs.NetSlots.{meets_piece, rest_marked}
 use Rattle.leg_route.specs.declared.end_slots.EndSlot.{EndSlot}
-use Rattle.leg_route.specs.Steps.EndSlots.{IsApart, MeetsPiece, IsBoundFrom, IsEndSlot, AreEndSlots, end_at, HaveGotEnds, end_from, AreEndsLeft}
+use Rattle.leg_route.specs.Steps.EndSlots.{IsApart, MeetsPiece, IsBoundFrom, IsEndSlot, HasEndFor, AreEndSlots, end_at, HaveGotSlotEnds, HaveGotEnds, end_from, AreEndsLeft}
 
--- the same ends, of which each is so far for another reason
-pub ends_farther : (grid : GridModel) (Apart : ℕ → Type 0) (Meets : ℕ → Node → Type 0) (Far Far2 : ℕ → ℕ → Type 0) (ends : List EndSlot)
-    → ((steps n : ℕ) → Far steps n → Far2 steps n)
-    → AreEndSlots grid Apart Meets Far ends → AreEndSlots grid Apart Meets Far2 ends
-ends_farther grid Apart Meets Far Far2 ends far are = record {
-  each = λ end has.
-      let is = are.each end has in
-      record { apart = is.apart; meets = is.meets; within = is.within; least = far end.least end.slot is.least };
-  all = are.all;
-}
+-- one slot more is looked at
+module _ (grid : GridModel) (Open : ℕ → Type 0) (firsts : List ℕ) (boxes : List SlotBox) (piece : ℕ) (slots : List ℕ) (before now : List EndSlot)
+    (got : HaveGotSlotEnds grid Open firsts boxes piece slots before now) (slot : ℕ) where
+  was_got : (end : EndSlot) → Contains now end
+      → Contains before end ⊎ ((n : ℕ) × Contains (slots ++ slot ∷ []) n × (end ≡ end_at grid boxes piece n))
+  was_got end has = elim (got.each end has) [
+    | inl old ↦ inl old
+    | inr new ↦ inr (new.0, Contains-append_left slots (slot ∷ []) new.0 new.1, new.2)
+  ]
+
+  -- it is listed
+  pub slot_listed : piece < length firsts → (after : List EndSlot) → after ≡ now ++ end_at grid boxes piece slot ∷ []
+      → HaveGotSlotEnds grid Open firsts boxes piece (slots ++ slot ∷ []) before after
+  slot_listed low after is =
+      let end = end_at grid boxes piece slot in
+      let itself : AreTogether firsts piece piece =
+      let read = slice_get-get_or firsts piece 0 low in record { least = get_or firsts piece 0; of_a = read; of_b = read } in
+      rw is
+      (record {
+        each = λ e has. elim (Contains-push_cases now end e has) [
+          | inl old ↦ was_got e old
+          | inr same ↦ inr (slot, Contains-push slots slot, sym same)
+        ];
+        still = λ e has. Contains-append_left now (end ∷ []) e (got.still e has);
+        all = λ n has is_open. elim (Contains-push_cases slots slot n has) [
+          | inl old ↦
+              let one = got.all n old is_open in
+              record { end = one.end; has = Contains-append_left now (end ∷ []) one.end one.has; together = one.together; of_slot = one.of_slot }
+          | inr same ↦ record { end = end; has = Contains-push now end; together = itself; of_slot = same }
+        ];
+      })
+
+  -- or passed over
+  pub slot_passed : (Open slot → HasEndFor firsts now piece slot) → HaveGotSlotEnds grid Open firsts boxes piece (slots ++ slot ∷ []) before now
+  slot_passed there = record {
+    each = was_got;
+    still = got.still;
+    all = λ n has is_open. elim (Contains-push_cases slots slot n has) [
+      | inl old ↦ got.all n old is_open
+      | inr same ↦ subst (λ m. HasEndFor firsts now piece m) same (there (subst Open (sym same) is_open))
+    ];
+  }
 
 -- one shape more
-module _ (grid : GridModel) (joined : List Bool) (shapes : List Shape) (numbers : List ℕ) (boxes : List SlotBox) (ends : List EndSlot)
-    (done : AreEndSlots grid (IsApart joined) (MeetsPiece shapes numbers) (IsBoundFrom grid boxes) ends) (k : ℕ) (shape : Shape)
-    (read : slice_get shapes k ≡ Some shape) where
+module _ (grid : GridModel) (joined : List Bool) (shapes : List Shape) (numbers : List ℕ) (Open : ℕ → Type 0) (firsts : List ℕ) (boxes : List SlotBox)
+    (ends : List EndSlot) (done : AreEndSlots grid (IsApart joined) (MeetsPiece shapes numbers) Open (IsBoundFrom grid boxes) firsts ends) (k : ℕ)
+    (shape : Shape) (read : slice_get shapes k ≡ Some shape) where
   earlier : (piece : ℕ) (node : Node) → MeetsPiece shapes numbers piece node → MeetsPiece shapes (numbers ++ k ∷ []) piece node
   earlier piece node m = record {
     number = m.number;
@@ -78,57 +112,51 @@ module _ (grid : GridModel) (joined : List Bool) (shapes : List Shape) (numbers 
 
   -- its piece isn't joined
   module _ (piece : ℕ) (of_piece : shape.piece ≡ Some piece) (apart : IsApart joined piece) (after : List EndSlot)
-      (got : HaveGotEnds grid boxes shape.layer shape.rect piece ends after) where
-    new_end : (n : ℕ) → Contains got.slots n
+      (added : HaveGotEnds grid Open firsts boxes piece shape.layer shape.rect ends after) where
+    new_end : (n : ℕ) → Contains added.slots n
         → IsEndSlot grid (IsApart joined) (MeetsPiece shapes (numbers ++ k ∷ [])) (IsBoundFrom grid boxes) (end_at grid boxes piece n)
     new_end n has =
-        let one = (got.in_rect n).0 has in record {
+        let one = (added.in_rect n).0 has in record {
           apart = apart;
           meets = record {
             node = one.node;
             is = one.is;
             holds = record { number = k; listed = Contains-push numbers k; shape = shape; there = read; of_piece = of_piece; lies = one.holds };
           };
-          within = All-contains (λ n. n < slot_total grid) got.slots n got.within has;
+          within = All-contains (λ n. n < slot_total grid) added.slots n added.within has;
           least = min-le_right 4294967295 (bound_at grid boxes n);
         }
 
-    each_end : (end : EndSlot) → Contains (ends ++ map (end_at grid boxes piece) got.slots) end
-        → IsEndSlot grid (IsApart joined) (MeetsPiece shapes (numbers ++ k ∷ [])) (IsBoundFrom grid boxes) end
-    each_end end has = elim (Contains-append_cases ends (map (end_at grid boxes piece) got.slots) end has) [
+    each_end : (end : EndSlot) → Contains after end → IsEndSlot grid (IsApart joined) (MeetsPiece shapes (numbers ++ k ∷ [])) (IsBoundFrom grid boxes) end
+    each_end end has = elim (added.got.each end has) [
       | inl old ↦ still ends end (done.each end old)
       | inr new ↦
-          let from = comes_from (end_at grid boxes piece) got.slots end new in
-          subst (λ (e : EndSlot). IsEndSlot grid (IsApart joined) (MeetsPiece shapes (numbers ++ k ∷ [])) (IsBoundFrom grid boxes) e) from.2
-          (new_end from.0 from.1)
+          subst (λ (e : EndSlot). IsEndSlot grid (IsApart joined) (MeetsPiece shapes (numbers ++ k ∷ [])) (IsBoundFrom grid boxes) e) (sym new.2)
+          (new_end new.0 new.1)
     ]
 
-    all_ends : (other n : ℕ) → IsApart joined other → IsOneOf (IsNumberOf grid) (MeetsPiece shapes (numbers ++ k ∷ []) other) n
-        → (end : EndSlot) × Contains (ends ++ map (end_at grid boxes piece) got.slots) end × (end.piece ≡ other) × (end.slot ≡ n)
-    all_ends other n is_apart one = elim (parts other one.node one.holds) [
+    all_ends : (other n : ℕ) → IsApart joined other → IsOneOf (IsNumberOf grid) (MeetsPiece shapes (numbers ++ k ∷ []) other) n → Open n
+        → HasEndFor firsts after other n
+    all_ends other n is_apart one is_open = elim (parts other one.node one.holds) [
       | inl before ↦
-          let old = done.all other n is_apart (record { node = one.node; is = one.is; holds = before }) in
-          (old.0, Contains-append_left ends (map (end_at grid boxes piece) got.slots) old.0 old.1, old.2, old.3)
+          let old = done.all other n is_apart (record { node = one.node; is = one.is; holds = before }) is_open in
+          record { end = old.end; has = added.got.still old.end old.has; together = old.together; of_slot = old.of_slot }
       | inr here ↦
-          let has = (got.in_rect n).1 (record { node = one.node; is = one.is; holds = here.lies }) in (
-            end_at grid boxes piece n,
-            Contains-append_right ends (map (end_at grid boxes piece) got.slots) (end_at grid boxes piece n)
-                (Contains-map (end_at grid boxes piece) got.slots n has),
-            same_Some piece other (sym of_piece ∙ here.of_piece),
-            refl,
-          )
+          let same : piece ≡ other = same_Some piece other (sym of_piece ∙ here.of_piece) in
+          subst (λ p. HasEndFor firsts after p n) same
+          (added.got.all n ((added.in_rect n).1 (record { node = one.node; is = one.is; holds = here.lies })) is_open)
     ]
 
-    pub ends_more : AreEndSlots grid (IsApart joined) (MeetsPiece shapes (numbers ++ k ∷ [])) (IsBoundFrom grid boxes) after
-    ends_more = rw got.are (record { each = each_end; all = all_ends })
+    pub ends_more : AreEndSlots grid (IsApart joined) (MeetsPiece shapes (numbers ++ k ∷ [])) Open (IsBoundFrom grid boxes) firsts after
+    ends_more = record { each = each_end; all = all_ends }
 
   -- it is, or the shape is of none
   pub ends_skip : ((piece : ℕ) → shape.piece ≡ Some piece → IsApart joined piece → ⊥)
-      → AreEndSlots grid (IsApart joined) (MeetsPiece shapes (numbers ++ k ∷ [])) (IsBoundFrom grid boxes) ends
+      → AreEndSlots grid (IsApart joined) (MeetsPiece shapes (numbers ++ k ∷ [])) Open (IsBoundFrom grid boxes) firsts ends
   ends_skip none = record {
     each = λ end has. still ends end (done.each end has);
-    all = λ piece n apart one. elim (parts piece one.node one.holds) [
-      | inl before ↦ done.all piece n apart (record { node = one.node; is = one.is; holds = before })
+    all = λ piece n apart one is_open. elim (parts piece one.node one.holds) [
+      | inl before ↦ done.all piece n apart (record { node = one.node; is = one.is; holds = before }) is_open
       | inr here ↦ absurd (none piece here.of_piece apart)
     ];
   }
@@ -178,11 +206,31 @@ was_apart before joined still later piece apart =
       | inr past ↦ absurd (true≢false (sym (later piece past low) ∙ now))
     ]
 
+-- nor is one that is joined to it
+pub apart_too : (flat : FlatModel) (net : ℕ) (joined : List Bool) → AreMarks (AreJoined flat net 0) (piece_count flat net) joined → (a b : ℕ)
+    → AreJoined flat net a b → a < length joined → IsApart joined b → IsApart joined a
+apart_too flat net joined marks a b alike low apart =
+    let read = slice_get-get_or joined a false low in
+    elim (cases_Bool (get_or joined a false)) [
+      | inl is ↦
+          let first : AreJoined flat net 0 a = (marks.each a (get_or joined a false) read).0 is in
+          absurd (true≢false (sym ((marks.each b false apart).1 (Joined-onward (Touch flat net) 0 a b first alike))))
+      | inr is ↦ read ∙ ap Some is
+    ]
+
+-- pieces whose first one is the same are joined
+pub first_joined : (flat : FlatModel) (net : ℕ) (firsts : List ℕ) → AreFirsts (AreJoined flat net) (piece_count flat net) firsts → (a b : ℕ)
+    → AreTogether firsts a b → AreJoined flat net a b
+first_joined flat net firsts are a b together =
+    let first = together.least in
+    let back : AreJoined flat net first b = AreJoined-symmetric flat net b first (are.each b first together.of_b).joined in
+    Joined-onward (Touch flat net) a first b (are.each a first together.of_a).joined back
+
 -- the ends are of slots of the grid
-pub ends_within : (grid : GridModel) (Apart : ℕ → Type 0) (Meets : ℕ → Node → Type 0) (Far : ℕ → ℕ → Type 0) (ends : List EndSlot)
-    → AreEndSlots grid Apart Meets Far ends
-    → All (λ (end : EndSlot). end.slot < slot_total grid) ends
-ends_within grid Apart Meets Far ends are = All-from_contains (λ (end : EndSlot). end.slot < slot_total grid) ends (λ end has. (are.each end has).within)
+pub ends_within : (grid : GridModel) (Apart : ℕ → Type 0) (Meets : ℕ → Node → Type 0) (Open : ℕ → Type 0) (Far : ℕ → ℕ → Type 0) (firsts : List ℕ)
+    (ends : List EndSlot) → AreEndSlots grid Apart Meets Open Far firsts ends → All (λ (end : EndSlot). end.slot < slot_total grid) ends
+ends_within grid Apart Meets Open Far firsts ends are =
+    All-from_contains (λ (end : EndSlot). end.slot < slot_total grid) ends (λ end has. (are.each end has).within)
 
 pub slots_within : (size : ℕ) (ends : List EndSlot) → All (λ (end : EndSlot). end.slot < size) ends
     → All (λ n. n < size) (map (λ (end : EndSlot). end.slot) ends)

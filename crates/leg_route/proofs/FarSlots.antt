@@ -8,7 +8,7 @@ use Rattle.leg_lib_records.specs.Sound.{IsSound}
 use Rattle.leg_design_records.specs.declared.records.Wire.{Wire}
 use Rattle.leg_rules.specs.declared.shape.Shape.{Shape}
 use Rattle.leg_rules.specs.Metal.Flat.{FlatModel}
-use Rattle.leg_rules.specs.Route.OpenMetal.{IsOpenWire, IsOpenNode, IsOpenStep}
+use Rattle.leg_rules.specs.Route.OpenMetal.{IsOpenWire, IsOpenStep}
 use Rattle.leg_rules.specs.Route.Meets.{MeetsJoined}
 use Rattle.leg_route_search.specs.Steps.SideSteps.{IsStep}
 use Rattle.leg_route_search.specs.Steps.Search.{IsRound}
@@ -26,14 +26,10 @@ use Rattle.leg_route_grid.proofs.Bounds.{beside_near, nearest_both}
 use Rattle.leg_route_grid.proofs.OpenSteps.{steps_have_sides}
 use Rattle.leg_route_grid.proofs.TableNumbers.{walk_as, shortest_as, none_as}
 use Rattle.leg_route.specs.declared.end_slots.EndSlot.{EndSlot}
-use Rattle.leg_route.specs.Steps.EndSlots.{IsBoundFrom, IsFarSlot, AreSameEnds}
+use Rattle.leg_route.specs.Steps.EndSlots.{IsBoundFrom, IsOpenSlot, IsFarSlot, AreSameEnds}
 use Rattle.leg_route.specs.Steps.NetSlots.{IsNearestAt}
 
--- the slot of this number is open to the net
-abbrev OpenAt : GridModel → FlatModel → ℕ → ℕ → Type 0
-OpenAt grid flat net n = IsOneOf (IsNumberOf grid) (IsOpenNode grid.design flat net) n
-
--- and so is the step from the one to the other
+-- the step from the one slot to the other is open to the net
 abbrev StepAt : GridModel → FlatModel → ℕ → ℕ → ℕ → Type 0
 StepAt grid flat net m n = IsStepOf (IsNumberOf grid) (IsOpenStep grid.design flat net) m n
 
@@ -79,7 +75,7 @@ module _ (grid : GridModel) (net : ℕ) (before after : FlatModel) (kept : (shap
       let clean = is_open metal rect there points in
       record { no_short = λ s has. clean.no_short s (kept s has); far = λ s has. clean.far s (kept s has) }
 
-  node_before : (n : ℕ) → OpenAt grid after net n → OpenAt grid before net n
+  pub node_before : (n : ℕ) → IsOpenSlot grid after net n → IsOpenSlot grid before net n
   node_before n one =
       let is = one.holds in
       record { node = one.node; is = one.is; holds = record { is_node = is.is_node; wire = is.wire; adds = is.adds; clean = wire_before is.wire is.clean } }
@@ -97,8 +93,8 @@ module _ (grid : GridModel) (net : ℕ) (before after : FlatModel) (kept : (shap
 
   pub far_grows : (boxes : List SlotBox) (steps n : ℕ) → IsFarSlot grid before net boxes steps n → IsFarSlot grid after net boxes steps n
   far_grows boxes steps n far from nodes start walk =
-      far from nodes start (walk_as (OpenAt grid after net) (OpenAt grid before net) (StepAt grid after net) (StepAt grid before net) node_before step_before
-      walk)
+      far from nodes start (walk_as (IsOpenSlot grid after net) (IsOpenSlot grid before net) (StepAt grid after net) (StepAt grid before net)
+      node_before step_before walk)
 
 -- what a search is told of the ends, and what it finds out of them
 module _ (grid : GridModel) (flat : FlatModel) (slots : List SlotAccess) (net : ℕ) (origin around : List SlotBox) (is_grid : IsDesignGrid grid)
@@ -137,7 +133,7 @@ module _ (grid : GridModel) (flat : FlatModel) (slots : List SlotAccess) (net : 
             let is = All-get_or (λ (end : EndSlot). IsFarSlot grid flat net origin end.least end.slot) ends k no_end low far in
             let slot = get_or-map (λ (end : EndSlot). end.slot) ends k no_end 0 low in
             let least = get_or-map (λ (end : EndSlot). end.least) ends k no_end 0 low in
-            let one = walk_as (IsNodeAdmitted slots net) (OpenAt grid flat net) StepAdmitted (StepAt grid flat net)
+            let one = walk_as (IsNodeAdmitted slots net) (IsOpenSlot grid flat net) StepAdmitted (StepAt grid flat net)
             (λ n is_open. (node_admitted grid flat slots told net n).0 is_open) step_open (rw slot at walk) in
             rw least (is from nodes start one);
       }
@@ -153,7 +149,7 @@ module _ (grid : GridModel) (flat : FlatModel) (slots : List SlotAccess) (net : 
       let slot : (get_or after k no_end).slot ≡ get_or (map (λ (end : EndSlot). end.slot) ends) k 0 =
       same.slot k no_end low ∙ sym (get_or-map (λ (end : EndSlot). end.slot) ends k no_end 0 low) in
       let least = noted k no_end (omega (arith, low, long, known.one_each)) in
-      let one = walk_as (OpenAt grid flat net) (IsNodeAdmitted slots net) (StepAt grid flat net) StepAdmitted
+      let one = walk_as (IsOpenSlot grid flat net) (IsNodeAdmitted slots net) (StepAt grid flat net) StepAdmitted
       (λ n is_open. (node_admitted grid flat slots told net n).1 is_open) open_step (rw slot at walk) in
       rw least (known.each k (omega (arith, low, long)) from nodes start one))
 
@@ -166,7 +162,7 @@ module _ (grid : GridModel) (flat : FlatModel) (slots : List SlotAccess) (net : 
     abbrev Joined : ℕ → Type 0
     Joined n = IsOneOf (IsNumberOf grid) (MeetsJoined flat net) n
 
-    opens : (n : ℕ) → IsNodeAdmitted slots net n ↔ OpenAt grid flat net n
+    opens : (n : ℕ) → IsNodeAdmitted slots net n ↔ IsOpenSlot grid flat net n
     opens n = node_admitted grid flat slots told net n
 
     steps_open : (m n : ℕ) → StepAdmitted m n ↔ StepAt grid flat net m n
@@ -181,8 +177,8 @@ module _ (grid : GridModel) (flat : FlatModel) (slots : List SlotAccess) (net : 
     pub found_nearest : (left_out : Bool) (answer : Option (List ℕ)) → IsRound (IsNodeAdmitted slots net) StepAdmitted Origin (Contains ends) left_out answer
         → IsNearestAt grid flat net ends left_out answer
     found_nearest left_out None none = λ closed.
-        none_as (IsNodeAdmitted slots net) (OpenAt grid flat net) StepAdmitted (StepAt grid flat net) Origin (Contains ends) Joined (Contains ends) opens
+        none_as (IsNodeAdmitted slots net) (IsOpenSlot grid flat net) StepAdmitted (StepAt grid flat net) Origin (Contains ends) Joined (Contains ends) opens
         steps_open begun ended (none closed)
     found_nearest left_out (Some numbers) is =
-        shortest_as (IsNodeAdmitted slots net) (OpenAt grid flat net) StepAdmitted (StepAt grid flat net) Origin (Contains ends) Joined (Contains ends) opens
-        steps_open begun ended numbers is
+        shortest_as (IsNodeAdmitted slots net) (IsOpenSlot grid flat net) StepAdmitted (StepAt grid flat net) Origin (Contains ends) Joined (Contains ends)
+        opens steps_open begun ended numbers is

@@ -1,7 +1,7 @@
 -- What is kept of the joined part of a net: at first, when a net gets a wire, and in terms of the numbers of the net's shapes.
 use Rattle.std.proofs.Common.{◌≡◌, ◌+◌, ◌<◌, ◌≤◌, ℕ, Bool, true, false, List, [], length, Contains, get_or, None, Some, slice_get, inl, inr, refl, sym, ap, ◌∙◌, subst, arith}
 use Rattle.std.proofs.lemmas.Bool.{cases_eq}
-use Rattle.std.proofs.lemmas.List.Elements.{All-nil, Contains-append_left, Contains-append_cases}
+use Rattle.std.proofs.lemmas.List.Elements.{All-nil, Contains-append_cases}
 use Rattle.std.proofs.lemmas.Option.{same_Some, none-some, slice_get_within, slice_get_read, slice_get-get_or, get_or_from_slice_get}
 use Rattle.leg_sweep.proofs.Lists.{Contains-nil}
 use Rattle.leg_geom.specs.Plane.{PointModel}
@@ -21,27 +21,19 @@ use Rattle.leg_route_grid.specs.declared.slot_box.SlotBox.{SlotBox}
 use Rattle.leg_route_grid.specs.declared.hulls.Hull.{Hull}
 use Rattle.leg_route_grid.specs.Steps.WalkBounds.{bound_at, IsBoxOf}
 use Rattle.leg_route_grid.specs.Steps.Grid.{GridModel, slot_total}
-use Rattle.leg_route_laws.proofs.Places.{is_like, comes_from}
-use Rattle.leg_route.specs.declared.joined_part.JoinedPart.{JoinedPart}
+use Rattle.leg_lemmas.proofs.Places.{comes_from}
+use Rattle.leg_flat.proofs.LastPiece.{length_of_pieces}
+use Rattle.leg_wire.proofs.NetNumbers.{same_net}
+use Rattle.leg_route_laws.proofs.OpenNets.{count_is}
+use Rattle.leg_route_laws.proofs.Places.{is_like}
 use Rattle.leg_route.specs.Steps.EndSlots.{MeetsPiece, IsFarSlot}
-use Rattle.leg_route.specs.Steps.NetEnds.{EndsModel, ends_in}
+use Rattle.leg_route.specs.Steps.NetEnds.{EndsModel}
 use Rattle.leg_route.specs.Steps.NetSlots.{MeetsMarked, IsPartOf}
 use Rattle.leg_route.specs.Steps.JoinedPart.{PartModel, MeetsPart, LiesInPiece, IsJoinedPart}
 use Rattle.leg_route.proofs.JoinedSlots.{one_as}
-use Rattle.leg_route.proofs.FarSlots.{far_grows}
+use Rattle.leg_route.proofs.FarSlots.{far_grows, node_before}
 use Rattle.leg_route.proofs.NetEnds.{net_ends_as}
-use Rattle.leg_route.proofs.MoreWires.{count_at, count_as, with_count, one_piece, step_pieces}
-
--- what the code keeps
-abbrev pub part_in : {A : Type 0} → JoinedPart A → PartModel
-part_in part = record {
-  net = part.net;
-  joined = part.joined.items;
-  boxes = part.slots.boxes.items;
-  slots = part.slots.slots.items;
-  hulls = part.hulls.items;
-  ends = ends_in part.ends;
-}
+use Rattle.leg_route.proofs.MoreWires.{count_as, one_piece, step_shape, step_pieces}
 
 -- a piece that is joined has its mark
 pub marked_joined : (joined : List Bool) (Is : ℕ → Type 0) (size : ℕ) → AreMarks Is size joined → (k : ℕ) → k < length joined → Is k
@@ -70,12 +62,9 @@ part_none grid flat net joined boxes slots hulls ends joined_is boxes_is slots_i
         near = λ end has. absurd (Contains-nil end has);
         grouped = λ group has. absurd (Contains-nil group has);
         far = λ group end has is_in. absurd (Contains-nil group has);
-        all = λ piece n apart one. absurd (none-some false apart);
+        all = λ piece n apart one is_open. absurd (none-some false apart);
       };
     })
-
-same_net : (m n : ℕ) → Net m ≡ Net n → m ≡ n
-same_net m n same = cc
 
 -- a net got a wire
 module _ (design : DesignModel) (net : ℕ) (wire : records.Wire) (before after : FlatModel) (more : HasOneMoreWire design net wire before after) where
@@ -83,7 +72,7 @@ module _ (design : DesignModel) (net : ℕ) (wire : records.Wire) (before after 
   own = length more.terminals + more.wires
 
   pub own_is : piece_count before net ≡ own
-  own_is = count_at before net _ more.there ∙ with_count more.terminals more.wires
+  own_is = count_is before net _ more.there ∙ length_of_pieces more.terminals more.wires
 
   -- nets have as many pieces at least
   as_many : (n : ℕ) → piece_count before n ≤ piece_count after n
@@ -109,10 +98,6 @@ module _ (design : DesignModel) (net : ℕ) (wire : records.Wire) (before after 
         piece = like.like.piece ∙ sym (ap (λ (m : Metal). m.belongs.piece) from.2);
       }
 
-  -- the shapes are there still
-  shapes_on : (shape : Shape) → Contains before.shapes shape → Contains after.shapes shape
-  shapes_on shape there = subst (λ (shapes : List Shape). Contains shapes shape) (sym more.shapes) (Contains-append_left before.shapes more.added shape there)
-
   module _ (n : ℕ) where
     -- what lies in a piece lies in it still
     lies_on : (k layer : ℕ) (p : PointModel) → LiesIn before n k layer p → LiesIn after n k layer p
@@ -121,7 +106,7 @@ module _ (design : DesignModel) (net : ℕ) (wire : records.Wire) (before after 
         let there = h.of_piece.there in
         record {
           shape = h.shape;
-          has = shapes_on h.shape h.has;
+          has = step_shape design net wire before after more h.shape h.has;
           of_piece = record { there = omega (arith, many, there); owner = h.of_piece.owner; piece = h.of_piece.piece };
           on_layer = h.on_layer;
           inside = h.inside;
@@ -204,11 +189,14 @@ module _ (design : DesignModel) (net : ℕ) (wire : records.Wire) (before after 
         within = had.within;
         boxed = had.boxed;
         hulled = had.hulled;
-        ends_are = net_ends_as grid part.joined (LiesInPiece before n) (LiesInPiece after n) (IsFarSlot grid before n part.boxes)
+        ends_are = net_ends_as grid before after n part.joined (LiesInPiece before n) (LiesInPiece after n) (IsFarSlot grid before n part.boxes)
             (IsFarSlot grid after n part.boxes) part.ends
-            (λ piece node low lies. lies_on n piece node.layer node.at lies)
-            (λ piece node low lies. lies_back n piece node.layer node.at (omega (arith, low, few)) lies)
-            (far_grows grid n before after shapes_on part.boxes) had.ends_are;
+            (λ piece node low. (
+              λ lies. lies_on n piece node.layer node.at lies,
+              λ lies. lies_back n piece node.layer node.at (omega (arith, low, few)) lies,
+            ))
+            (far_grows grid n before after (step_shape design net wire before after more) part.boxes)
+            (node_before grid n before after (step_shape design net wire before after more)) (joined_on n) had.ends_are;
       }
 
 -- the marked pieces of a net, by the numbers of its shapes
@@ -284,8 +272,9 @@ module _ (flat : FlatModel) (net : ℕ) (numbers : List ℕ) (are : AreNumbersOf
         boxed = part.boxed;
       };
       hulled = part.hulled;
-      ends_are = net_ends_as grid joined (LiesInPiece flat net) (MeetsPiece flat.shapes numbers) (IsFarSlot grid flat net boxes)
-          (IsFarSlot grid flat net boxes) ends lies_numbered numbered_lies (λ steps n far. far) part.ends_are;
+      ends_are = net_ends_as grid flat flat net joined (LiesInPiece flat net) (MeetsPiece flat.shapes numbers) (IsFarSlot grid flat net boxes)
+          (IsFarSlot grid flat net boxes) ends (λ piece node low. (lies_numbered piece node low, numbered_lies piece node low)) (λ steps n far. far)
+          (λ n is_open. is_open) (λ a b joined_are. joined_are) part.ends_are;
     }
 
     -- and what is to be kept
@@ -304,8 +293,9 @@ module _ (flat : FlatModel) (net : ℕ) (numbers : List ℕ) (are : AreNumbersOf
       within = had.starts.within;
       boxed = had.starts.boxed;
       hulled = had.hulled;
-      ends_are = net_ends_as grid joined (MeetsPiece flat.shapes numbers) (LiesInPiece flat net) (IsFarSlot grid flat net boxes)
-          (IsFarSlot grid flat net boxes) ends numbered_lies lies_numbered (λ steps n far. far) had.ends_are;
+      ends_are = net_ends_as grid flat flat net joined (MeetsPiece flat.shapes numbers) (LiesInPiece flat net) (IsFarSlot grid flat net boxes)
+          (IsFarSlot grid flat net boxes) ends (λ piece node low. (numbered_lies piece node low, lies_numbered piece node low)) (λ steps n far. far)
+          (λ n is_open. is_open) (λ a b joined_are. joined_are) had.ends_are;
     }
 
 -- what is kept of this net, by the numbers of its shapes

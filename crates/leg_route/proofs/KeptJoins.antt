@@ -11,11 +11,11 @@ use Rattle.leg_rules.specs.Metal.MoreWires.{HasOneMoreWire}
 use Rattle.leg_wire.specs.declared.piece_shape.PieceShape.{PieceShape}
 use Rattle.leg_rules.specs.Joins.Touch.{piece_count}
 use Rattle.leg_wire.specs.Joins.{JoinsModel, IsWholeNet, AreJoinsOf, metal_of_piece, HasOnePieceMore, IsPieceShape}
-use Rattle.leg_route_laws.proofs.Places.{comes_from}
+use Rattle.leg_lemmas.proofs.Places.{comes_from}
 use Rattle.leg_route.specs.Steps.JoinedPart.{PartModel, AreGivenTo}
 use Rattle.leg_route.specs.Steps.Ready.{IsWithWire}
 use Rattle.leg_route.proofs.JoinedParts.{own, own_is, IsNew, new_shape}
-use Rattle.leg_route.proofs.MoreWires.{one_piece}
+use Rattle.leg_route.proofs.MoreWires.{one_piece, step_shape}
 
 module _ (design : DesignModel) (net : ℕ) (wire : records.Wire) (before after : FlatModel) (more : HasOneMoreWire design net wire before after) where
   abbrev last : ℕ
@@ -33,9 +33,6 @@ module _ (design : DesignModel) (net : ℕ) (wire : records.Wire) (before after 
   -- a shape is an old one or a new one
   old_or_new : (shape : Shape) → Contains after.shapes shape → Contains before.shapes shape ⊎ Contains more.added shape
   old_or_new shape there = Contains-append_cases before.shapes more.added shape (subst (λ (shapes : List Shape). Contains shapes shape) more.shapes there)
-
-  there_still : (shape : Shape) → Contains before.shapes shape → Contains after.shapes shape
-  there_still shape there = subst (λ (shapes : List Shape). Contains shapes shape) (sym more.shapes) (Contains-append_left before.shapes more.added shape there)
 
   there_now : (shape : Shape) → Contains more.added shape → Contains after.shapes shape
   there_now shape there = subst (λ (shapes : List Shape). Contains shapes shape) (sym more.shapes) (Contains-append_right before.shapes more.added shape there)
@@ -78,7 +75,7 @@ module _ (design : DesignModel) (net : ℕ) (wire : records.Wire) (before after 
     metal_each piece there = elim (Contains-append_cases joins.metal new_metal piece there) [
       | inl old ↦
           let from = are.metal.each piece old in
-          (from.0, there_still from.0 from.1, old_metal from.0 piece from.2)
+          (from.0, step_shape design net wire before after more from.0 from.1, old_metal from.0 piece from.2)
       | inr new ↦
           let from = comes_from as_new more.added piece new in
           let is = is_new from.0 from.1 in

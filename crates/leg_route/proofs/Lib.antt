@@ -1,5 +1,4 @@
 mod GrownLaws
-mod GridFacts
 mod StraightRuns
 mod OpenWires
 mod RunFacts

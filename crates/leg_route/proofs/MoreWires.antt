@@ -1,16 +1,11 @@
 -- Flats that get wires of a net: how many pieces the net has, and that pieces that are joined stay so.
-use Rattle.std.proofs.Common.{◌≡◌, ◌≢◌, ◌+◌, ◌*◌, ◌<◌, ◌≤◌, ℕ, List, [], ◌∷◌, ◌++◌, length, map, Contains, Option, None, Some, slice_get, refl, sym, ap, ◌∙◌, subst, arith}
-use Rattle.std.specs.List.{range_with_len}
-use Rattle.std.proofs.lemmas.List.{length-append, length-map}
-use Rattle.std.proofs.lemmas.List.FromFn.{length-range_with_len}
+use Rattle.std.proofs.Common.{◌≡◌, ◌≢◌, ◌+◌, ◌*◌, ◌<◌, ◌≤◌, ℕ, List, [], ◌∷◌, ◌++◌, length, Contains, Option, None, Some, slice_get, refl, sym, ap, ◌∙◌, subst, arith}
 use Rattle.std.proofs.lemmas.List.Elements.{All-contains, Contains-append_left}
 use Rattle.leg_design_records.specs.declared.limits.TheConstants.{PART_LIMIT}
 use Rattle.leg_geom.specs.Plane.{PointModel}
-use Rattle.leg_design_records.specs.declared.records.Terminal.{Terminal}
 use Rattle.leg_design_records.specs.declared.records.Wire.{Wire}
 use Rattle.leg_design_records.specs.Records.{DesignModel}
 use Rattle.leg_rules.specs.declared.piece.Piece.{Piece}
-use Rattle.leg_rules.specs.declared.piece.Piece.TheVariants as pieces
 use Rattle.leg_rules.specs.declared.shape.Shape.{Shape}
 use Rattle.leg_flat.specs.Limits.{ArePieces, IsWithinLimits}
 use Rattle.leg_rules.specs.Metal.Flat.{FlatModel, pieces_with}
@@ -25,23 +20,17 @@ use Rattle.leg_rules.specs.Route.Spelling.{Spells, AreWiresOf}
 use Rattle.leg_rules.specs.Route.Spelling.Spells.{done, along}
 use Rattle.leg_rules.specs.Route.Spelling.Spells.{through as by_via}
 use Rattle.leg_rules.specs.Route.Spelling.AreWiresOf.{stays, goes}
-use Rattle.leg_route_laws.proofs.Places.{contains_at}
-use Rattle.leg_route_laws.proofs.Places.{set_here, set_elsewhere}
+use Rattle.leg_flat.proofs.LastPiece.{length_of_pieces}
+use Rattle.leg_route_laws.proofs.OpenNets.{count_is}
+use Rattle.leg_lemmas.proofs.Places.{contains_at}
+use Rattle.leg_lemmas.proofs.Places.{set_here, set_elsewhere}
 
 -- how many pieces a net has
-pub count_at : (flat : FlatModel) (net : ℕ) (own : List Piece) → slice_get flat.pieces net ≡ Some own → piece_count flat net ≡ length own
-count_at flat net own there = rw there refl
-
 pub count_as : (f g : FlatModel) (n : ℕ) → slice_get g.pieces n ≡ slice_get f.pieces n → piece_count g n ≡ piece_count f n
 count_as f g n same = rw same refl
 
 count_none : (flat : FlatModel) (net : ℕ) → slice_get flat.pieces net ≡ None → piece_count flat net ≡ 0
 count_none flat net there = rw there refl
-
-pub with_count : (terminals : List Terminal) (wires : ℕ) → length (pieces_with terminals wires) ≡ length terminals + wires
-with_count terminals wires =
-    length-append (map pieces.Term terminals) (map pieces.Wire (range_with_len 0 wires))
-    ∙ rw (length-map terminals pieces.Term, length-map (range_with_len 0 wires) pieces.Wire, length-range_with_len 0 wires) refl
 
 -- so many at most
 pub few_pieces : (flat : FlatModel) (net : ℕ) → IsWithinLimits flat → piece_count flat net ≤ 3 * PART_LIMIT
@@ -49,7 +38,7 @@ few_pieces flat net within = by (slice_get flat.pieces net) refl where
   by : (o : Option (List Piece)) → slice_get flat.pieces net ≡ o → piece_count flat net ≤ 3 * PART_LIMIT
   by None is = let count = count_none flat net is in omega (arith, count)
   by (Some own) is =
-      let count = count_at flat net own is in
+      let count = count_is flat net own is in
       let few = (All-contains (ArePieces (length flat.shapes)) flat.pieces own within.of_nets (contains_at flat.pieces net own is)).few in
       let shapes = within.shapes in
       omega (arith, count, few, shapes)
@@ -60,10 +49,10 @@ module _ (design : DesignModel) (net : ℕ) where
       let here : slice_get g.pieces net ≡ Some (pieces_with step.terminals (step.wires + 1)) =
       ap (λ (ps : List (List Piece)). slice_get ps net) step.pieces
       ∙ set_here f.pieces net (pieces_with step.terminals step.wires) (pieces_with step.terminals (step.wires + 1)) step.there in
-      let then = count_at g net (pieces_with step.terminals (step.wires + 1)) here in
-      let first = count_at f net (pieces_with step.terminals step.wires) step.there in
-      let many = with_count step.terminals (step.wires + 1) in
-      let had = with_count step.terminals step.wires in
+      let then = count_is g net (pieces_with step.terminals (step.wires + 1)) here in
+      let first = count_is f net (pieces_with step.terminals step.wires) step.there in
+      let many = length_of_pieces step.terminals (step.wires + 1) in
+      let had = length_of_pieces step.terminals step.wires in
       omega (arith, then, first, many, had)
 
   pub more_pieces : (wires : List Wire) (f g : FlatModel) → HasMoreWires design net wires f g → piece_count g net ≡ piece_count f net + length wires
@@ -79,16 +68,17 @@ module _ (design : DesignModel) (net : ℕ) where
   more_then wires wire f g h none step = one_more step none
   more_then wires wire f g h (one_more {mid = mid} {wires = others} first rest) step = one_more first (more_then others wire mid g h rest step)
 
+  -- the shapes are there still
+  pub step_shape : (wire : Wire) (f g : FlatModel) → HasOneMoreWire design net wire f g → (shape : Shape) → Contains f.shapes shape → Contains g.shapes shape
+  step_shape wire f g step shape there =
+      subst (λ (shapes : List Shape). Contains shapes shape) (sym step.shapes) (Contains-append_left f.shapes step.added shape there)
+
   -- nets that are joined stay so
   module _ (n : ℕ) (other : n ≢ net) where
     pub step_pieces : (wire : Wire) (f g : FlatModel) → HasOneMoreWire design net wire f g → slice_get g.pieces n ≡ slice_get f.pieces n
     step_pieces wire f g step =
         ap (λ (ps : List (List Piece)). slice_get ps n) step.pieces
         ∙ set_elsewhere f.pieces net n (pieces_with step.terminals (step.wires + 1)) (λ same. other (sym same))
-
-    step_shape : (wire : Wire) (f g : FlatModel) (shape : Shape) → HasOneMoreWire design net wire f g → Contains f.shapes shape → Contains g.shapes shape
-    step_shape wire f g shape step there =
-        subst (λ (shapes : List Shape). Contains shapes shape) (sym step.shapes) (Contains-append_left f.shapes step.added shape there)
 
     record IsKept (f g : FlatModel) : Type 0 where
       pub pieces : slice_get g.pieces n ≡ slice_get f.pieces n
@@ -99,7 +89,7 @@ module _ (design : DesignModel) (net : ℕ) where
     kept wires f g (one_more {mid = mid} {wire = wire} {wires = others} step rest) =
         let then = kept others mid g rest in record {
           pieces = then.pieces ∙ step_pieces wire f mid step;
-          shapes = λ shape there. then.shapes shape (step_shape wire f mid shape step there);
+          shapes = λ shape there. then.shapes shape (step_shape wire f mid step shape there);
         }
 
     module _ (f g : FlatModel) (keeps : IsKept f g) where

@@ -10,6 +10,7 @@ use Rattle.leg_rules.specs.Route.Meets.{MeetsJoined, MeetsRest}
 use Rattle.leg_rules.specs.Route.OpenMetal.{IsOpenNode, IsOpenStep}
 use Rattle.leg_rules.specs.Route.Walk.{IsShortest, NoWalk}
 use Rattle.leg_route_search.specs.Steps.Dive.{IsOrigin}
+use Rattle.leg_route_search.proofs.LastSteps.{end_open}
 use Rattle.leg_route_grid.specs.declared.slot_box.SlotBox.{SlotBox}
 use Rattle.leg_route_grid.specs.declared.slot_access.SlotAccess.{SlotAccess}
 use Rattle.leg_route_grid.specs.declared.hulls.Hull.{Hull}
@@ -17,7 +18,7 @@ use Rattle.leg_route_grid.specs.Steps.AccessTable.{IsAccessTable}
 use Rattle.leg_route_grid.specs.Steps.WalkBounds.{bound_at}
 use Rattle.leg_route_grid.specs.Steps.Grid.{GridModel, IsDesignGrid, IsNumberOf, slot_total}
 use Rattle.leg_route_grid.specs.Steps.NodeNumbers.{IsOneOf, IsStepOf, IsNextWalkAt, HasNoWalkAt}
-use Rattle.leg_route_laws.proofs.Places.{comes_from}
+use Rattle.leg_lemmas.proofs.Places.{comes_from}
 use Rattle.leg_route.specs.declared.end_slots.EndSlot.{EndSlot}
 use Rattle.leg_route.specs.declared.net_ends.EndGroup.{EndGroup}
 use Rattle.leg_route.specs.Steps.EndSlots.{MeetsPiece, IsFarSlot, AreSameEnds}
@@ -64,10 +65,10 @@ module _ (flat : FlatModel) (net : ℕ) (numbers : List ℕ) (are : AreNumbersOf
   near_slot : (end : EndSlot) (n : ℕ) → Contains ends.near end → end.slot ≡ n → Contains slots n
   near_slot end n has of_slot = subst (λ k. Contains slots k) of_slot (Contains-map (λ (end : EndSlot). end.slot) ends.near end has)
 
-  end_of : (n : ℕ) → IsOneOf (IsNumberOf grid) (MeetsRest flat net) n → (piece : ℕ) × HasEnd ends piece n
-  end_of n rest =
+  end_of : (n : ℕ) → IsOneOf (IsNumberOf grid) (MeetsRest flat net) n → Open n → (piece : ℕ) × HasEnd flat net ends piece n
+  end_of n rest is_open =
       let one = rest_piece flat net numbers are joined marks grid n rest in
-      (one.piece, part.ends_are.all one.piece n one.apart one.meets)
+      (one.piece, part.ends_are.all one.piece n one.apart one.meets is_open)
 
   pub near_is_next : (walk : List ℕ) → IsShortest Open Step (IsOneOf (IsNumberOf grid) (MeetsJoined flat net)) (Contains slots) walk
       → ((group : EndGroup) → Contains ends.far group → length walk ≤ group.least) → IsNextWalkAt grid flat net walk
@@ -78,7 +79,7 @@ module _ (flat : FlatModel) (net : ℕ) (numbers : List ℕ) (are : AreNumbersOf
     is_end = near_rest is.to is.is_end;
     walk = is.walk;
     least = λ a b others start rest other.
-        let one = (end_of b rest).1 in
+        let one = (end_of b rest (end_open other)).1 in
         elim one.is [
           | inl has ↦ is.least a b others start (near_slot one.end b has one.of_slot) other
           | inr far ↦
@@ -90,7 +91,7 @@ module _ (flat : FlatModel) (net : ℕ) (numbers : List ℕ) (are : AreNumbersOf
 
   pub near_is_none : NoWalk Open Step (IsOneOf (IsNumberOf grid) (MeetsJoined flat net)) (Contains slots) → ends.far ≡ [] → HasNoWalkAt grid flat net
   near_is_none none no_far a b nodes start rest walk =
-      let one = (end_of b rest).1 in
+      let one = (end_of b rest (end_open walk)).1 in
       elim one.is [
         | inl has ↦ none a b nodes start (near_slot one.end b has one.of_slot) walk
         | inr far ↦ Contains-nil far.group (subst (λ (far_all : List EndGroup). Contains far_all far.group) no_far far.has)
@@ -106,12 +107,13 @@ module _ (flat : FlatModel) (net : ℕ) (numbers : List ℕ) (are : AreNumbersOf
 -- the part, when groups have come near, and when more is known of the near ends
 module _ (grid : GridModel) (flat : FlatModel) (net : ℕ) (joined : List Bool) (numbers : List ℕ) (boxes : List SlotBox) (starts : List ℕ)
     (hulls : List Hull) where
-  pub part_near : (reach : ℕ) (before after : EndsModel) → IsDesignGrid grid → HaveGrownNear grid joined boxes reach before after
+  pub part_near : (reach : ℕ) (before after : EndsModel) → IsDesignGrid grid → AreMarks (AreJoined flat net 0) (piece_count flat net) joined
+      → HaveGrownNear grid joined boxes reach before after
       → IsPartOf grid flat net joined numbers boxes starts hulls before → IsPartOf grid flat net joined numbers boxes starts hulls after
-  part_near reach before after is_grid grown part = record {
+  part_near reach before after is_grid marks grown part = record {
     starts = part.starts;
     hulled = part.hulled;
-    ends_are = ends_near grid flat net is_grid joined (MeetsPiece flat.shapes numbers) boxes reach before after grown part.ends_are;
+    ends_are = ends_near grid flat net is_grid joined marks (MeetsPiece flat.shapes numbers) boxes reach before after grown part.ends_are;
   }
 
   pub part_again : (near after listed : List EndSlot) (far : List EndGroup) (len : ℕ) → length near ≡ len → AreSameEnds near after
@@ -124,6 +126,6 @@ module _ (grid : GridModel) (flat : FlatModel) (net : ℕ) (joined : List Bool) 
       (record {
         starts = part.starts;
         hulled = part.hulled;
-        ends_are = near_again near after same grid joined (MeetsPiece flat.shapes numbers) (IsFarSlot grid flat net boxes) listed far
+        ends_are = near_again near after same grid flat net joined (MeetsPiece flat.shapes numbers) (IsFarSlot grid flat net boxes) listed far
             (λ end has. All-contains (λ (end : EndSlot). IsFarSlot grid flat net boxes end.least end.slot) after end known has) part.ends_are;
       })

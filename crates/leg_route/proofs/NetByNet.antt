@@ -1,9 +1,8 @@
 -- A run over all nets, of which one after another has its turn.
-use Rattle.std.proofs.Common.{◌≡◌, ◌≢◌, ◌==◌, ◌+◌, ◌<◌, ◌≤◌, ℕ, zero, suc, true, false, List, [], ◌∷◌, ◌++◌, length, map, All, Some, slice_get, ◌⊎◌, inl, inr, refl, sym, ap, ◌∙◌, subst, arith}
+use Rattle.std.proofs.Common.{◌≡◌, ◌≢◌, ◌==◌, ◌+◌, ◌<◌, ◌≤◌, ℕ, true, false, List, [], ◌∷◌, ◌++◌, length, map, All, Some, slice_get, ◌⊎◌, inl, inr, refl, sym, ap, ◌∙◌, subst, arith}
 use Rattle.std.proofs.lemmas.Bool.{cases_lt}
 use Rattle.std.proofs.lemmas.Bool.Decides.{nat_tests}
-use Rattle.std.proofs.lemmas.Option.{none-some}
-use Rattle.std.proofs.lemmas.List.{append-nil, append_assoc, length-append}
+use Rattle.std.proofs.lemmas.List.{append-nil, append_assoc, length-append, map_push}
 use Rattle.std.proofs.lemmas.List.Elements.{All-nil, All-cons, All-append, All-head, All-tail}
 use Rattle.leg_design_records.specs.declared.records.Wire.{Wire}
 use Rattle.leg_design_records.specs.Records.{DesignModel}
@@ -18,6 +17,7 @@ use Rattle.leg_route.specs.Refusal.{IsRouteRefusal}
 use Rattle.leg_rules.specs.Route.Refusal.{ComesToRun}
 use Rattle.leg_rules.specs.Route.Refusal.HasTooMany.{on_the_way}
 use Rattle.leg_rules.specs.Route.Result.{wires_for}
+use Rattle.leg_lemmas.proofs.Places.{get_first, get_last}
 use Rattle.leg_route.specs.declared.fault.RouteFault.{RouteFault}
 use Rattle.leg_route.specs.declared.fault.RouteFault.TheVariants.{NotClean, GridTooLarge, Unroutable, TooMany, Memory}
 use Rattle.leg_route.specs.Steps.NetLists.{AreListsOf}
@@ -99,16 +99,7 @@ module _ (design : DesignModel) (flat : FlatModel) (net : ℕ) (added : List Net
             stays_joined design net other (λ same. let e : ⊥ = omega (arith, less, same) in e) more last grown grows (before.joined other less);
       }
 
--- what a list has after one more
-get_first : {X : Type 0} (xs ys : List X) (k : ℕ) (x : X) → slice_get xs k ≡ Some x → slice_get (xs ++ ys) k ≡ Some x
-get_first [] ys k x there = absurd (none-some x there)
-get_first (y ∷ xs) ys zero x there = there
-get_first (y ∷ xs) ys (suc k) x there = get_first xs ys k x there
-
-get_last : {X : Type 0} (xs : List X) (x : X) → slice_get (xs ++ x ∷ []) (length xs) ≡ Some x
-get_last [] x = refl
-get_last (y ∷ xs) x = get_last xs x
-
+-- the lists with that of one net more
 lists_next : (net : ℕ) (added walks : List NetWires) (lists : List (List Wire)) (wires : List Wire) → AreListsOf net added lists
     → All (IsBelow net) added → All (IsOf net) walks → wires_for net walks ≡ wires → AreListsOf (net + 1) (added ++ walks) (lists ++ wires ∷ [])
 lists_next net added walks lists wires are below own wires_are = record {
@@ -187,10 +178,6 @@ run_stops design flat net lists mid TooMany u stop =
     }
 run_stops design flat net lists mid Memory u stop = tt
 
-map_last : {X Y : Type 0} (f : X → Y) (xs : List X) (x : X) → map f (xs ++ x ∷ []) ≡ map f xs ++ f x ∷ []
-map_last f [] x = refl
-map_last f (y ∷ xs) x = ap (λ ys. f y ∷ ys) (map_last f xs x)
-
 -- the same of lists that hold their wires, and of a design that is the same
 pub underway_step : {V : Type 0} (wires_of : V → List Wire) (design d1 : DesignModel) (flat : FlatModel) (net : ℕ) (lists next : List V)
     (mid grown : FlatModel) (own : V) → d1 ≡ design → IsRunSoFar design flat net (map wires_of lists) mid → NetRun d1 net mid (wires_of own) grown
@@ -198,7 +185,7 @@ pub underway_step : {V : Type 0} (wires_of : V → List Wire) (design d1 : Desig
 underway_step wires_of design d1 flat net lists next mid grown own same u net_run closed is =
     let then = underway_next design flat net (map wires_of lists) mid grown (wires_of own) u (subst (λ d. NetRun d net mid (wires_of own) grown) same net_run)
     (subst (λ d. ¬ IsOpenNet d grown net) same closed) in
-    subst (λ ls. IsRunSoFar design flat (net + 1) ls grown) (sym (ap (map wires_of) is ∙ map_last wires_of lists own)) then
+    subst (λ ls. IsRunSoFar design flat (net + 1) ls grown) (sym (ap (map wires_of) is ∙ map_push wires_of lists own)) then
 
 -- behind the last net the run has come to its end
 pub underway_done : (design : DesignModel) (flat : FlatModel) (lists : List (List Wire)) (grown : FlatModel)

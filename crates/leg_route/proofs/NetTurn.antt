@@ -17,9 +17,6 @@ use Rattle.leg_route.specs.Steps.NetRun.{NetRun}
 use Rattle.leg_route.specs.Steps.NetRun.NetRun.{walked}
 use Rattle.leg_route.proofs.MoreWires.{few_pieces, more_pieces, wires_some}
 
-pub all_at : {X : Type 0} (P : X → Type 0) (xs : List X) (k : ℕ) (x : X) → All P xs → k < length xs → x ≡ get_or xs k x → P x
-all_at P xs k x all less is = subst P (sym is) (all k x less)
-
 -- a flat that gets the wires which a search handed on, where the search changed neither the design nor the flat
 pub gets_wires : (d1 d2 : DesignModel) (net : ℕ) (f1 f2 f3 : FlatModel) (more given : List Wire) → d2 ≡ d1 → f2 ≡ f1 → given ≡ more
     → HasMoreWires d2 net given f2 f3 → HasMoreWires d1 net more f1 f3

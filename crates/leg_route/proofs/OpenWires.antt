@@ -14,17 +14,18 @@ use Rattle.leg_rules.specs.Route.Walk.{Walk}
 use Rattle.leg_rules.specs.Route.Walk.Walk.{here, on}
 use Rattle.leg_rules.specs.declared.node.Node.{Node}
 use Rattle.leg_rules.specs.Route.Tracks.{Runs}
-use Rattle.leg_rules.specs.Route.Neighbours.{IsInLine, IsOver}
+use Rattle.leg_rules.specs.Route.Neighbours.{IsOver}
 use Rattle.leg_rules.specs.Route.StepWires.{half, square, NodeAdds, StepAdds}
 use Rattle.leg_rules.specs.Route.OpenMetal.{IsOpenWire, IsOpenNode, IsOpenStep}
 use Rattle.leg_rules.specs.Route.Spelling.{IsOnLayer, IsStraight, Spells, AreWiresOf}
 use Rattle.leg_rules.specs.Route.Spelling.IsStraight.{one, more}
 use Rattle.leg_rules.specs.Route.Spelling.Spells.{done, through, along}
 use Rattle.leg_rules.specs.Route.Spelling.AreWiresOf.{stays, goes}
+use Rattle.leg_route_grid.proofs.OpenNodes.{one_width}
+use Rattle.leg_route_grid.proofs.OpenSteps.{one_layer, other_layer, same_via}
 use Rattle.leg_route_laws.specs.Lines.{EachStep, last_spot}
-use Rattle.leg_route_laws.proofs.Places.{contains_at}
+use Rattle.leg_lemmas.proofs.Places.{contains_at}
 use Rattle.leg_route.proofs.GrownLaws.{RunOfCleanWires}
-use Rattle.leg_route.proofs.GridFacts.{same_width, over_up, via_once}
 use Rattle.leg_route.proofs.StraightRuns.{points, beside_layer, straight_last, straight_ahead, straight_apart, straight_keeps, ahead_apart, in_line}
 
 -- the width of a routing layer is above 0 and even
@@ -67,39 +68,17 @@ module _ (run_of_clean : RunOfCleanWires) (design : DesignModel) (flat : FlatMod
   node_clean : (a : Node) (wire : Wire) → IsOpenNode design flat net a → NodeAdds design a wire → Clean wire
   node_clean a wire is_open adds =
       let width : is_open.adds.width ≡ adds.width =
-      same_width design.library a.layer is_open.adds.direction adds.direction is_open.adds.width adds.width is_open.adds.runs adds.runs in
+      one_width design.library a.layer is_open.adds.direction adds.direction is_open.adds.width adds.width is_open.adds.runs adds.runs in
       let same : is_open.wire ≡ wire = is_open.adds.is ∙ ap (λ w. Patch a.layer a.at (square (half w))) width ∙ sym adds.is in
       subst Clean same is_open.clean
 
-  -- steps on a layer are not steps through a via
-  line_layer : (a b : Node) → IsInLine design a b → a.layer ≡ b.layer
-  line_layer a b (inl (inl h)) = h.layer
-  line_layer a b (inl (inr h)) = sym h.layer
-  line_layer a b (inr (inl h)) = h.layer
-  line_layer a b (inr (inr h)) = sym h.layer
-
-  abbrev IsThrough : ℕ → Node → Node → Type 0
-  IsThrough via a b = IsOver design via a b ⊎ IsOver design via b a
-
-  through_other : (via : ℕ) (a b : Node) → IsThrough via a b → a.layer ≡ b.layer → ⊥
-  through_other via a b (inl up) same = let less = over_up design via a b up in omega (arith, less, same)
-  through_other via a b (inr down) same = let less = over_up design via b a down in omega (arith, less, same)
-
-  through_once : (via other : ℕ) (a b : Node) → IsThrough via a b → IsThrough other a b → via ≡ other
-  through_once via other a b (inl p) (inl q) = via_once design.library a.layer b.layer via other p.via_is q.via_is
-  through_once via other a b (inl p) (inr q) =
-      let less = over_up design via a b p in let more = over_up design other b a q in absurd (omega (arith, less, more))
-  through_once via other a b (inr p) (inl q) =
-      let less = over_up design via b a p in let more = over_up design other a b q in absurd (omega (arith, less, more))
-  through_once via other a b (inr p) (inr q) = via_once design.library b.layer a.layer via other p.via_is q.via_is
-
   -- the via of an open step is clean
-  via_clean : (via : ℕ) (a b : Node) → IsThrough via a b → Step a b → Clean (ViaAt via a.at)
+  via_clean : (via : ℕ) (a b : Node) → IsOver design via a b ⊎ IsOver design via b a → Step a b → Clean (ViaAt via a.at)
   via_clean via a b over step = by step.adds where
     by : StepAdds design a b step.wire → Clean (ViaAt via a.at)
-    by (inl line) = absurd (through_other via a b over (line_layer a b line.in_line))
+    by (inl line) = absurd (other_layer design via a b over (one_layer design a b line.in_line))
     by (inr it) =
-        let same : step.wire ≡ ViaAt via a.at = it.is ∙ ap (λ k. ViaAt k a.at) (through_once it.via via a b it.over over) in
+        let same : step.wire ≡ ViaAt via a.at = it.is ∙ ap (λ k. ViaAt k a.at) (same_via design via it.via a b over it.over) in
         subst Clean same step.clean
 
   -- the segment of an open step along a layer is clean
@@ -107,11 +86,11 @@ module _ (run_of_clean : RunOfCleanWires) (design : DesignModel) (flat : FlatMod
       → Step a b → Clean (Segment layer a.at b.at width (half width) (half width))
   line_clean layer direction width a b is runs level step = by step.adds where
     by : StepAdds design a b step.wire → Clean (Segment layer a.at b.at width (half width) (half width))
-    by (inr it) = absurd (through_other it.via a b it.over level)
+    by (inr it) = absurd (other_layer design it.via a b it.over level)
     by (inl line) =
         let it = line.line in
         let width_is : it.width ≡ width =
-        same_width design.library layer it.direction direction it.width width (subst (λ n. Runs design.library n it.direction it.width) is it.runs) runs in
+        one_width design.library layer it.direction direction it.width width (subst (λ n. Runs design.library n it.direction it.width) is it.runs) runs in
         let same : step.wire ≡ Segment layer a.at b.at width (half width) (half width) =
         it.is ∙ ap (λ n. Segment n a.at b.at it.width (half it.width) (half it.width)) is ∙ ap (λ w. Segment layer a.at b.at w (half w) (half w)) width_is in
         subst Clean same step.clean

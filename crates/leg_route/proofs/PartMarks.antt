@@ -1,15 +1,14 @@
 -- The marks of a net's joined pieces, where pieces come, and what its part gets by them.
-use Rattle.std.proofs.Common.{◌≡◌, ◌⊎◌, ◌-◌, ◌<◌, ◌≤◌, ℕ, Bool, true, false, eqb, List, [], ◌∷◌, ◌++◌, length, get_or, set, take, replicate, All, Contains, Option, None, Some, option_map, slice_get, inl, inr, refl, sym, ap, ◌∙◌, arith}
+use Rattle.std.proofs.Common.{◌≡◌, ◌⊎◌, ◌-◌, ◌<◌, ◌≤◌, ℕ, Bool, true, false, eqb, List, [], ◌∷◌, ◌++◌, length, get_or, set, take, replicate, All, Contains, Some, slice_get, inl, inr, refl, sym, ap, ◌∙◌, arith}
 use Rattle.std.specs.List.{list_any}
 use Rattle.std.specs.Cmp.{nat_eq_equiv}
 use Rattle.std.proofs.lemmas.Bool.{cases_eq, cases_lt, false≢true, eqb-true}
 use Rattle.std.proofs.lemmas.List.{length-append, length-set, length-replicate, get_or_append_left, get_or-append_right, get_or-replicate, get_or-set_same, get_or-set_other, take_all}
 use Rattle.std.proofs.lemmas.List.Elements.{Contains-append_left, Contains-append_cases, Contains-push, Contains-push_cases}
 use Rattle.std.proofs.lemmas.Map.Views.{Contains-from_any, list_any-from_Contains}
-use Rattle.std.proofs.lemmas.Option.{none-some, same_Some, slice_get_within, slice_get_read, slice_get-get_or, get_or_from_slice_get}
+use Rattle.std.proofs.lemmas.Option.{same_Some, slice_get_within, slice_get_read, slice_get-get_or, get_or_from_slice_get}
 use Rattle.leg_sweep.proofs.Lists.{All-from_contains, Contains-nil}
 use Rattle.leg_rules.specs.declared.node.Node.{Node}
-use Rattle.leg_rules.specs.declared.piece.Piece.{Piece}
 use Rattle.leg_rules.specs.declared.shape.Shape.{Shape}
 use Rattle.leg_rules.specs.Metal.Flat.{FlatModel}
 use Rattle.leg_rules.specs.Joins.Touch.{piece_count, AreJoined}
@@ -23,13 +22,6 @@ use Rattle.leg_route.specs.Steps.JoinedPart.{PartModel, IsJoinedPart, AreGivenTo
 use Rattle.leg_route.specs.Steps.NetSlots.{MeetsMarked, AreMarkedSlots}
 use Rattle.leg_route.proofs.JoinedParts.{part_had}
 use Rattle.leg_route.proofs.JoinedSlots.{one_as}
-
--- the pieces of a net that the flat tells are counted
-pub told_count : (flat : FlatModel) (net count : ℕ) → option_map length (slice_get flat.pieces net) ≡ Some count → piece_count flat net ≡ count
-told_count flat net count told = by (slice_get flat.pieces net) refl where
-  by : (o : Option (List Piece)) → slice_get flat.pieces net ≡ o → piece_count flat net ≡ count
-  by None is = absurd (none-some count (rw is at told))
-  by (Some pieces) is = rw is (same_Some (length pieces) count (rw is at told))
 
 -- a mark that is set
 set_there : (marks : List Bool) (k : ℕ) → slice_get marks k ≡ Some true → (k < length marks) × (get_or marks k false ≡ true)
@@ -182,6 +174,7 @@ module _ (grid : GridModel) (flat : FlatModel) (net : ℕ) (part : PartModel) (c
         before = part.joined;
         had = rw of_net (part_had grid flat part net numbers of_net numbers_are had);
         still = λ k at. (have.marked k).1 (inl at);
+        marks = rw of_net marks_are;
         long =
             let few : length part.joined ≤ piece_count flat net = rw of_net at had.few in
             let size = have.size in omega (arith, few, size, counted);

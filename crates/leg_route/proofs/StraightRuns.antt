@@ -9,6 +9,7 @@ use Rattle.leg_rules.specs.declared.node.Node.{Node}
 use Rattle.leg_rules.specs.Route.Neighbours.{IsNeighbour}
 use Rattle.leg_rules.specs.Route.Spelling.{IsOnLayer, IsStraight}
 use Rattle.leg_rules.specs.Route.Spelling.IsStraight.{one, more}
+use Rattle.leg_lemmas.proofs.Integers.{lt_trans_z}
 use Rattle.leg_route_laws.specs.Lines.{EachStep, last_spot, AreInLine}
 
 -- the second point lies to this side of the first
@@ -57,17 +58,14 @@ module _ (design : DesignModel) where
   beside_ahead Below a b on h = absurd on
   beside_ahead Above a b on h = absurd on
 
-less_less : (a b c : ℤ) → a <ℤ b → b <ℤ c → a <ℤ c
-less_less a b c p q = omega (arith, ints, p, q)
-
 not_less : (a b : ℤ) → a <ℤ b → a ≡ b → ⊥
 not_less a b p same = omega (arith, ints, p, same)
 
 ahead_more : (side : Side) (p q r : PointModel) → Ahead side p q → Ahead side q r → Ahead side p r
-ahead_more West p q r first second = less_less r.x q.x p.x second first
-ahead_more East p q r first second = less_less p.x q.x r.x first second
-ahead_more South p q r first second = less_less r.y q.y p.y second first
-ahead_more North p q r first second = less_less p.y q.y r.y first second
+ahead_more West p q r first second = lt_trans_z r.x q.x p.x second first
+ahead_more East p q r first second = lt_trans_z p.x q.x r.x first second
+ahead_more South p q r first second = lt_trans_z r.y q.y p.y second first
+ahead_more North p q r first second = lt_trans_z p.y q.y r.y first second
 ahead_more Below p q r first second = first
 ahead_more Above p q r first second = first
 

@@ -12,7 +12,7 @@ ghost use Rattle.leg_route_grid.specs.Steps.Grid.{slot_total};
 ghost use Rattle.leg_rules.specs.Legal.{IsCleanIn};
 ghost use Rattle.leg_route.specs.Refusal.{IsRouteRefusal};
 ghost use Rattle.leg_rules.specs.Route.Refusal.{ComesToRun};
-ghost use Rattle.leg_route.specs.Steps.NetEnds.{ends_in};
+ghost use Rattle.leg_route.specs.Steps.JoinedPart.{part_in};
 ghost use Rattle.leg_route.specs.Steps.Ready.{IsReadyGround};
 
 use crate::fault::RouteFault;
@@ -55,14 +55,7 @@ impl<'g, 'a, A: Allocator + Copy> GridGround<'g, 'a, A> {
     ) -> Result<GridGround<'g, 'a, A>, RouteFault<A>>
         requires clean { IsCleanIn design.now flat }
         ensures ready { IfOk result (λ ground. IsReadyGround design.now ground.grid ground.flat ground.slots.items ground.numbers.items ground.marks
-            (record {
-              net = ground.part.net;
-              joined = ground.part.joined.items;
-              boxes = ground.part.slots.boxes.items;
-              slots = ground.part.slots.slots.items;
-              hulls = ground.part.hulls.items;
-              ends = ends_in ground.part.ends;
-            }) ground.joins) }
+            (part_in ground.part) ground.joins) }
         ensures same_design { IfOk result (λ ground. ground.design.now ≡ design.now) }
         ensures comes { IfOk result (λ ground. ComesToRun design.now ground.flat) }
         ensures within { IfOk result (λ ground. IsWithinLimits ground.flat) }
@@ -87,7 +80,7 @@ impl<'g, 'a, A: Allocator + Copy> GridGround<'g, 'a, A> {
 }
 
 impl<'g, 'a, A: Allocator + Copy> Ground<A> for GridGround<'g, 'a, A> {
-    ghost use Rattle.leg_route.specs.Steps.NetEnds.{ends_in};
+    ghost use Rattle.leg_route.specs.Steps.JoinedPart.{part_in};
     ghost use Rattle.leg_route.specs.Steps.Ready.{IsReadyGround};
 
     ghost design = { λ g. g.design.now };
@@ -95,14 +88,7 @@ impl<'g, 'a, A: Allocator + Copy> Ground<A> for GridGround<'g, 'a, A> {
     ghost flat = { λ g. g.flat };
 
     ghost IsReady = { λ g. IsReadyGround g.design.now g.grid g.flat g.slots.items g.numbers.items g.marks
-        (record {
-          net = g.part.net;
-          joined = g.part.joined.items;
-          boxes = g.part.slots.boxes.items;
-          slots = g.part.slots.slots.items;
-          hulls = g.part.hulls.items;
-          ends = ends_in g.part.ends;
-        }) g.joins };
+        (part_in g.part) g.joins };
 
     fn next(&mut self, alloc: A, net: u32) -> Result<NextStep<A>, AllocError> {
         let own = self.numbers[net as usize].as_slice();
@@ -115,7 +101,17 @@ impl<'g, 'a, A: Allocator + Copy> Ground<A> for GridGround<'g, 'a, A> {
         let part = mem::replace(&mut self.part, JoinedPart::new(alloc, net));
         let part = part.of_net(alloc, net);
         let come = joins.take_joined(alloc)?;
-        let mut part = part_now(alloc, &self.grid, &self.flat, net, own, &joins, &come, part)?;
+        let mut part = part_now(
+            alloc,
+            &self.grid,
+            &self.flat,
+            &self.slots,
+            net,
+            own,
+            &joins,
+            &come,
+            part,
+        )?;
         self.joins = Some(joins);
         let wires = next_wires(
             alloc,

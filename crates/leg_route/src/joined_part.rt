@@ -5,9 +5,10 @@ ghost use Rattle.leg_rules.specs.Metal.Flat.{FlatModel};
 ghost use Rattle.leg_rules.specs.Joins.Touch.{piece_count, AreJoined};
 ghost use Rattle.leg_wire.specs.Joins.{AreJoinsOf};
 ghost use Rattle.leg_wire.specs.NetShapes.{AreNumbersOf};
-ghost use Rattle.leg_wire.specs.PieceMarks.{AreMarks};
+ghost use Rattle.leg_wire.specs.PieceMarks.{AreMarks, AreFirsts};
+ghost use Rattle.leg_route_grid.specs.Steps.AccessTable.{IsAccessTable};
 ghost use Rattle.leg_route_grid.specs.Steps.Grid.{GridModel};
-ghost use Rattle.leg_route.specs.Steps.JoinedPart.{IsJoinedPart, HaveCome, HaveMarked, HaveGotSlots, IsGrowing, MeetsMetal, MeetsPieces};
+ghost use Rattle.leg_route.specs.Steps.JoinedPart.{part_in, IsJoinedPart, HaveCome, HaveMarked, HaveGotSlots, IsGrowing, MeetsMetal, MeetsPieces};
 ghost use Rattle.leg_route.specs.Steps.NetEnds.{ends_in};
 ghost use Rattle.leg_route.specs.Steps.NetSlots.{IsPartOf};
 
@@ -15,7 +16,9 @@ use crate::end_slots::{are_joined_from, ends_left, ends_of};
 use crate::net_ends::{NetEnds, net_ends, note_boxes};
 use crate::next_wires::marked_slots;
 use leg_flat::Flat;
-use leg_route_grid::{BoxedSlots, Grid, Hull, add_hulls, add_slots_in, grid_is_sound, hulls_of};
+use leg_route_grid::{
+    BoxedSlots, Grid, Hull, SlotAccess, add_hulls, add_slots_in, grid_is_sound, hulls_of,
+};
 use leg_wire::{NetJoins, PieceShape};
 use std::alloc::{AllocError, Allocator};
 
@@ -61,22 +64,7 @@ impl<A: Allocator + Copy> JoinedPart<A> {
         ensures net { result.net ≡ net }
         ensures same { self.net ≡ net → result ≡ self }
         ensures is { (grid : GridModel) (flat : FlatModel)
-            → IsJoinedPart grid flat (record {
-              net = self.net;
-              joined = self.joined.items;
-              boxes = self.slots.boxes.items;
-              slots = self.slots.slots.items;
-              hulls = self.hulls.items;
-              ends = ends_in self.ends;
-            })
-            → IsJoinedPart grid flat (record {
-              net = result.net;
-              joined = result.joined.items;
-              boxes = result.slots.boxes.items;
-              slots = result.slots.slots.items;
-              hulls = result.hulls.items;
-              ends = ends_in result.ends;
-            }) }
+            → IsJoinedPart grid flat (part_in self) → IsJoinedPart grid flat (part_in result) }
     {
         if self.net == net {
             return self;
@@ -86,31 +74,25 @@ impl<A: Allocator + Copy> JoinedPart<A> {
 }
 
 /// The part of the net, to whose joined pieces these have come. What is in the part from before is not looked for again, where the
-/// pieces that came later are joined. `numbers` are those of the net's shapes.
+/// pieces that came later are joined. `numbers` are those of the net's shapes, and `table` has what is open in the flat.
 pub(crate) fn part_now<A: Allocator + Copy>(
     alloc: A,
     grid: &Grid<'_, '_, A>,
     flat: &Flat<A>,
+    table: &[SlotAccess],
     net: u32,
     numbers: &[u32],
     joins: &NetJoins<A>,
     come: &[u32],
     mut part: JoinedPart<A>,
 ) -> Result<JoinedPart<A>, AllocError>
+    requires told { IsAccessTable grid.now flat.now table.now }
     requires in_range { net < length flat.now.pieces }
     requires numbers { AreNumbersOf flat.now.shapes net numbers.now }
     requires joins { AreJoinsOf flat.now joins.now }
     requires of_net { joins.now.net ≡ net }
     requires net { part.net ≡ net }
-    requires part { IsJoinedPart grid.now flat.now
-        (record {
-          net = part.net;
-          joined = part.joined.items;
-          boxes = part.slots.boxes.items;
-          slots = part.slots.slots.items;
-          hulls = part.hulls.items;
-          ends = ends_in part.ends;
-        }) }
+    requires part { IsJoinedPart grid.now flat.now (part_in part) }
     requires come { HaveCome flat.now net part.joined.items come.now }
     ensures net { IfOk result (λ now. now.net ≡ net) }
     ensures joined { IfOk result (λ now. AreMarks (AreJoined flat.now net 0) (piece_count flat.now net) now.joined.items) }
@@ -122,7 +104,8 @@ pub(crate) fn part_now<A: Allocator + Copy>(
     if had > 0 && are_joined_from(&part.joined, had) {
         return grown_part(alloc, grid, flat, numbers, joins, come, part);
     }
-    new_part(alloc, grid, flat, net, numbers, part.joined)
+    let firsts = joins.firsts(alloc)?;
+    new_part(alloc, grid, flat, table, net, numbers, &firsts, part.joined)
 }
 
 /// Marks the pieces that have come, of this many.
@@ -142,16 +125,21 @@ fn mark_joined<A: Allocator>(
     Ok(())
 }
 
-/// The part of a net of which nothing is kept.
+/// The part of a net of which nothing is kept. `firsts` has for each piece the first one that it is joined to.
 fn new_part<A: Allocator + Copy>(
     alloc: A,
     grid: &Grid<'_, '_, A>,
     flat: &Flat<A>,
+    table: &[SlotAccess],
     net: u32,
     numbers: &[u32],
+    firsts: &[u32],
     joined: Vec<bool, A>,
 ) -> Result<JoinedPart<A>, AllocError>
+    requires told { IsAccessTable grid.now flat.now table.now }
     requires numbers { All (λ k. k < length flat.now.shapes) numbers.now }
+    requires firsts { AreFirsts (AreJoined flat.now net) (piece_count flat.now net) firsts.now }
+    requires marks { length joined.items ≡ piece_count flat.now net }
     ensures net { IfOk result (λ now. now.net ≡ net) }
     ensures joined { IfOk result (λ now. now.joined.items ≡ joined.items) }
     ensures is { IfOk result (λ now. IsPartOf grid.now flat.now net now.joined.items numbers.now
@@ -161,7 +149,18 @@ fn new_part<A: Allocator + Copy>(
     let shapes = flat.shapes();
     let slots = marked_slots(alloc, grid, shapes, numbers, &joined, true)?;
     let hulls = hulls_of(alloc, &slots.boxes)?;
-    let ends = ends_of(alloc, grid, shapes, numbers, &joined, &slots.boxes, &hulls)?;
+    let ends = ends_of(
+        alloc,
+        grid,
+        table,
+        net,
+        shapes,
+        numbers,
+        &joined,
+        firsts,
+        &slots.boxes,
+        &hulls,
+    )?;
     let ends = net_ends(alloc, grid, ends)?;
     Ok(JoinedPart {
         net,
@@ -182,15 +181,7 @@ fn grown_part<A: Allocator + Copy>(
     come: &[u32],
     part: JoinedPart<A>,
 ) -> Result<JoinedPart<A>, AllocError>
-    requires growing { IsGrowing grid.now flat.now numbers.now joins.now.metal come.now
-        (record {
-          net = part.net;
-          joined = part.joined.items;
-          boxes = part.slots.boxes.items;
-          slots = part.slots.slots.items;
-          hulls = part.hulls.items;
-          ends = ends_in part.ends;
-        }) }
+    requires growing { IsGrowing grid.now flat.now numbers.now joins.now.metal come.now (part_in part) }
     ensures net { IfOk result (λ now. now.net ≡ part.net) }
     ensures joined { IfOk result (λ now. now.joined.items ≡ part.joined.items) }
     ensures is { IfOk result (λ now. IsPartOf grid.now flat.now part.net now.joined.items numbers.now

@@ -126,7 +126,7 @@ bound_small grid ends n s is_grid box slot =
 min_upto : (a b c : ℕ) → b ≤ c → min a b ≤ min a c
 min_upto a b c upto = grind arith
 
-min_least : (a b c : ℕ) → a ≤ b → a ≤ c → a ≤ min b c
+pub min_least : (a b c : ℕ) → a ≤ b → a ≤ c → a ≤ min b c
 min_least a b c low lower = grind (arith, low, lower)
 
 pub none_upto : (a b : ℕ) → a ≤ b → b ≡ 0 → a ≡ 0

@@ -26,7 +26,7 @@ mod PieceMoves
 mod LikeShapes
 mod MetalCount
 -- What is legal
-mod OpenNets
+pub mod OpenNets
 mod Placement
 mod Legal
 -- What stays the same

@@ -31,7 +31,7 @@ JoinedBothWays = (flat : FlatModel) (net a b : ℕ) → AreJoined flat net a b �
 abbrev pub JoinedOnward : Type 0
 JoinedOnward = (flat : FlatModel) (net a b c : ℕ) → AreJoined flat net a b → AreJoined flat net b c → AreJoined flat net a c
 
-count_is : (flat : FlatModel) (n : ℕ) (pieces : List Piece) → slice_get flat.pieces n ≡ Some pieces → piece_count flat n ≡ length pieces
+pub count_is : (flat : FlatModel) (n : ℕ) (pieces : List Piece) → slice_get flat.pieces n ≡ Some pieces → piece_count flat n ≡ length pieces
 count_is flat n pieces there = rw there refl
 
 module _ (metal_has : MetalHasItsPiece) (piece_has : PieceHasItsMetal) (back : JoinedBothWays) (onward : JoinedOnward)

@@ -16,12 +16,12 @@ mod AccessBeside
 -- Pieces that touch
 mod SinglePoints
 mod SeenPoints
-mod NetNumbers
+pub mod NetNumbers
 mod PieceMetal
 mod PiecesTouch
 -- Pieces that are joined
-mod JoinedLaws
-mod Touches
+pub mod JoinedLaws
+pub mod Touches
 mod SetsOfPairs
 mod SomeMetal
 mod StandIns

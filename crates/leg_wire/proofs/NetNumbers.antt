@@ -13,7 +13,7 @@ use Rattle.leg_rules.specs.declared.owner.Owner.TheVariants.{Net}
 use Rattle.leg_rules.specs.declared.shape.Shape.{Shape}
 use Rattle.leg_wire.specs.NetShapes.{IsOfNet, AreNumbersOf}
 
-same_net : (m n : ℕ) → Net m ≡ Net n → m ≡ n
+pub same_net : (m n : ℕ) → Net m ≡ Net n → m ≡ n
 same_net m n same = cc
 
 module _ (shapes : List Shape) where

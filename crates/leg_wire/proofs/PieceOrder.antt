@@ -1,8 +1,7 @@
 -- Metal in the order of its pieces: that of one piece, and that of a further piece behind it.
 use Rattle.std.proofs.Common.{◌≡◌, ◌↔◌, ℕ, pos, ◌+◌, ◌-◌, ◌<◌, ◌≤◌, true, false, ltb, leb, List, ◌++◌, length, get_or, take, drop, All, Contains, inl, inr, refl, sym, ap, ◌∙◌, arith}
 use Rattle.std.specs.List.Sorted.{IsNonDecreasingBy, IsPartitionPoint, IsPermutation}
-use Rattle.std.proofs.lemmas.Bool.{cases_lt}
-use Rattle.std.proofs.lemmas.Bool.Decides.{nat_tests}
+use Rattle.std.proofs.lemmas.Bool.{cases_lt, ltb-true, ltb-false, leb-true, leb-false}
 use Rattle.std.proofs.lemmas.List.{length-append, length-take, length-drop, get_or-take, get_or-drop, get_or_append_left, get_or-append_right}
 use Rattle.std.proofs.lemmas.List.Sorted.{Contains-permutation, IsPermutation-sym}
 use Rattle.leg_rules.specs.Metal.Flat.{FlatModel}
@@ -21,24 +20,12 @@ module _ (metal : List PieceShape) (piece first end : ℕ)
     (below : IsPartitionPoint (λ (shape : PieceShape). ltb shape.piece piece ≡ true) (λ (shape : PieceShape). ltb shape.piece piece ≡ false) metal first)
     (upto : IsPartitionPoint (λ (shape : PieceShape). leb shape.piece piece ≡ true) (λ (shape : PieceShape). leb shape.piece piece ≡ false) metal end)
     (first_in : first ≤ length metal) (end_in : end ≤ length metal) where
-  lower : (p : ℕ) → ltb p piece ≡ true → p < piece
-  lower p test = grind (arith, nat_tests)
-
-  not_lower : (p : ℕ) → ltb p piece ≡ false → piece ≤ p
-  not_lower p test = grind (arith, nat_tests)
-
-  not_higher : (p : ℕ) → leb p piece ≡ true → p ≤ piece
-  not_higher p test = grind (arith, nat_tests)
-
-  higher : (p : ℕ) → leb p piece ≡ false → piece < p
-  higher p test = grind (arith, nat_tests)
-
   pub first_before : first ≤ end
   first_before = elim (cases_lt end first) [
     | inl less ↦
         let some : PieceShape = record { piece = 0; layer = 0; rect = record { x1 = pos 0; y1 = pos 0; x2 = pos 0; y2 = pos 0 } } in
-        let under = lower (get_or metal end some).piece (below.0 end some (omega arith) less) in
-        let over = higher (get_or metal end some).piece (upto.1 end some (omega arith) (omega (arith, less, first_in))) in
+        let under = ltb-true (get_or metal end some).piece piece (below.0 end some (omega arith) less) in
+        let over = leb-false (get_or metal end some).piece piece (upto.1 end some (omega arith) (omega (arith, less, first_in))) in
         absurd (omega (arith, under, over))
     | inr more ↦ more
   ]
@@ -52,8 +39,8 @@ module _ (metal : List PieceShape) (piece first end : ℕ)
         let before : k < end = omega (arith, cut, rest, has.1, first_before) in
         let read : get_or metal k shape ≡ shape =
         sym (get_or-take (end - first) (drop first metal) has.0 shape (omega (arith, before)) ∙ get_or-drop first metal has.0 shape) ∙ has.2 in
-        let over = not_lower (get_or metal k shape).piece (below.1 k shape (omega arith) (omega (arith, before, end_in))) in
-        let under = not_higher (get_or metal k shape).piece (upto.0 k shape (omega arith) before) in
+        let over = ltb-false (get_or metal k shape).piece piece (below.1 k shape (omega arith) (omega (arith, before, end_in))) in
+        let under = leb-true (get_or metal k shape).piece piece (upto.0 k shape (omega arith) before) in
         let piece_is = ap (λ (s : PieceShape). s.piece) read in
         ((k, omega (arith, before, end_in), read), omega (arith, over, under, piece_is)),
     λ is.
@@ -62,12 +49,14 @@ module _ (metal : List PieceShape) (piece first end : ℕ)
         let read = is.0.2 in
         let piece_is = ap (λ (s : PieceShape). s.piece) read in
         let from : first ≤ k = elim (cases_lt k first) [
-          | inl less ↦ let under = lower (get_or metal k shape).piece (below.0 k shape (omega arith) less) in absurd (omega (arith, under, piece_is, is.1))
+          | inl less ↦
+              let under = ltb-true (get_or metal k shape).piece piece (below.0 k shape (omega arith) less) in
+              absurd (omega (arith, under, piece_is, is.1))
           | inr more ↦ more
         ] in
         let before : k < end = elim (cases_lt k end) [
           | inl less ↦ less
-          | inr more ↦ let over = higher (get_or metal k shape).piece (upto.1 k shape more k_in) in absurd (omega (arith, over, piece_is, is.1))
+          | inr more ↦ let over = leb-false (get_or metal k shape).piece piece (upto.1 k shape more k_in) in absurd (omega (arith, over, piece_is, is.1))
         ] in
         let cut = length-take (end - first) (drop first metal) in
         let rest = length-drop first metal in

@@ -3,8 +3,10 @@
 ghost use Rattle.std.specs.Prelude.{◌≡◌, ◌↔◌, ◌<◌, ◌≤◌, ◌+◌, ◌^◌, ◌++◌, [], IsTrue, true, length, get_or, map, Contains, IfOk, OnOk};
 ghost use Rattle.leg_design_records.specs.Records.{DesignModel};
 ghost use Rattle.leg_rules.specs.Metal.Flat.{FlatModel};
+ghost use Rattle.leg_rules.specs.Joins.Touch.{piece_count, AreJoined};
 ghost use Rattle.leg_rules.specs.Joins.Violations.{IsOpenNet};
 ghost use Rattle.leg_wire.specs.NetShapes.{AreNumbersOf};
+ghost use Rattle.leg_wire.specs.PieceMarks.{AreFirsts};
 ghost use Rattle.leg_wire.specs.Joins.{AreJoinsOf, AreNewlyJoined, HasGiven, HasOnePieceMore, metal_of_piece};
 ghost use Rattle.leg_wire.specs.Steps.JoinSteps.{HavePlaces};
 ghost use Rattle.leg_wire.specs.Steps.NumberSets.{AreGroups, HasGrown};
@@ -108,6 +110,15 @@ impl<A: Allocator + Copy> NetJoins<A> {
         let pieces = Vec::from_slice(alloc, &joined[self.given..])?;
         self.given = joined.len();
         Ok(pieces)
+    }
+
+    /// For each piece the least piece that it is joined to, by their numbers, as `groups_among` gives them. It fails only when out of
+    /// memory.
+    pub fn firsts(&self, alloc: A) -> Result<Vec<u32, A>, AllocError>
+        ensures { IfOk result (λ firsts. (flat : FlatModel) → AreJoinsOf flat self.now
+            → AreFirsts (AreJoined flat self.now.net) (piece_count flat self.now.net) firsts.items) }
+    {
+        self.groups.sets.roots(alloc)
     }
 
     /// The metal of the piece.

@@ -1,10 +1,11 @@
 -- The slots at which walks of a net end, each with how many steps are left to it at least.
-use Rattle.std.specs.Prelude.{◌≡◌, ◌↔◌, ◌<◌, ◌≤◌, ℕ, Bool, false, List, ◌++◌, length, get_or, map, min, All, Contains, Some, slice_get}
+use Rattle.std.specs.Prelude.{◌≡◌, ◌↔◌, ◌⊎◌, ◌<◌, ◌≤◌, ℕ, Bool, false, List, length, get_or, min, All, Contains, Some, slice_get}
 use Rattle.leg_geom.specs.Plane.{RectModel}
 use Rattle.leg_rules.specs.declared.shape.Shape.{Shape}
 use Rattle.leg_rules.specs.declared.node.Node.{Node}
 use Rattle.leg_rules.specs.Metal.Flat.{FlatModel}
 use Rattle.leg_rules.specs.Route.OpenMetal.{IsOpenNode, IsOpenStep}
+use Rattle.leg_wire.specs.Steps.NumberSets.{AreTogether}
 use Rattle.leg_route_search.specs.Steps.Dive.{IsOrigin, IsFarNode}
 use Rattle.leg_route_grid.specs.declared.slot_box.SlotBox.{SlotBox}
 use Rattle.leg_route_grid.specs.Steps.WalkBounds.{bound_at}
@@ -30,10 +31,14 @@ pub record MeetsPiece (shapes : List Shape) (numbers : List ℕ) (piece : ℕ) (
 abbrev pub IsBoundFrom : GridModel → List SlotBox → ℕ → ℕ → Type 0
 IsBoundFrom grid boxes steps n = steps ≤ bound_at grid boxes n
 
+-- the slot is open to the net
+abbrev pub IsOpenSlot : GridModel → FlatModel → ℕ → ℕ → Type 0
+IsOpenSlot grid flat net n = IsOneOf (IsNumberOf grid) (IsOpenNode grid.design flat net) n
+
 -- each open walk of the net from a slot in these boxes to the slot has at least this many steps
 abbrev pub IsFarSlot : GridModel → FlatModel → ℕ → List SlotBox → ℕ → ℕ → Type 0
 IsFarSlot grid flat net boxes steps n =
-    IsFarNode (IsOneOf (IsNumberOf grid) (IsOpenNode grid.design flat net)) (IsStepOf (IsNumberOf grid) (IsOpenStep grid.design flat net))
+    IsFarNode (IsOpenSlot grid flat net) (IsStepOf (IsNumberOf grid) (IsOpenStep grid.design flat net))
     (IsOrigin (slot_total grid) (λ n. bound_at grid boxes n)) steps n
 
 -- the slot is that of a node that meets such a piece, and is so many steps away
@@ -43,10 +48,18 @@ pub record IsEndSlot (grid : GridModel) (Apart : ℕ → Type 0) (Meets : ℕ �
   pub within : end.slot < slot_total grid
   pub least : Far end.least end.slot
 
--- such ends, and each slot of such a node is one
-pub record AreEndSlots (grid : GridModel) (Apart : ℕ → Type 0) (Meets : ℕ → Node → Type 0) (Far : ℕ → ℕ → Type 0) (ends : List EndSlot) : Type 0 where
+-- an end at the slot stands in the list, in a piece whose first one is that of this piece
+pub record HasEndFor (firsts : List ℕ) (ends : List EndSlot) (piece n : ℕ) : Type 0 where
+  pub end : EndSlot
+  pub has : Contains ends end
+  pub together : AreTogether firsts end.piece piece
+  pub of_slot : end.slot ≡ n
+
+-- such ends, and there is one for each slot of such a node that is open
+pub record AreEndSlots (grid : GridModel) (Apart : ℕ → Type 0) (Meets : ℕ → Node → Type 0) (Open : ℕ → Type 0) (Far : ℕ → ℕ → Type 0) (firsts : List ℕ)
+    (ends : List EndSlot) : Type 0 where
   pub each : (end : EndSlot) → Contains ends end → IsEndSlot grid Apart Meets Far end
-  pub all : (piece n : ℕ) → Apart piece → IsOneOf (IsNumberOf grid) (Meets piece) n → (end : EndSlot) × Contains ends end × (end.piece ≡ piece) × (end.slot ≡ n)
+  pub all : (piece n : ℕ) → Apart piece → IsOneOf (IsNumberOf grid) (Meets piece) n → Open n → HasEndFor firsts ends piece n
 
 -- the same ends, of which other numbers of steps may be known
 pub record AreSameEnds (before after : List EndSlot) : Type 0 where
@@ -58,10 +71,18 @@ pub record AreSameEnds (before after : List EndSlot) : Type 0 where
 abbrev pub end_at : GridModel → List SlotBox → ℕ → ℕ → EndSlot
 end_at grid boxes piece n = record { piece = piece; slot = n; least = min 4294967295 (bound_at grid boxes n) }
 
--- the slots in the rectangle have come to the ends
-pub record HaveGotEnds (grid : GridModel) (boxes : List SlotBox) (layer : ℕ) (rect : RectModel) (piece : ℕ) (before after : List EndSlot) : Type 0 where
+-- of these slots ends in the piece have come to the list, and it has one for each that is open
+pub record HaveGotSlotEnds (grid : GridModel) (Open : ℕ → Type 0) (firsts : List ℕ) (boxes : List SlotBox) (piece : ℕ) (slots : List ℕ)
+    (before after : List EndSlot) : Type 0 where
+  pub each : (end : EndSlot) → Contains after end → Contains before end ⊎ ((n : ℕ) × Contains slots n × (end ≡ end_at grid boxes piece n))
+  pub still : (end : EndSlot) → Contains before end → Contains after end
+  pub all : (n : ℕ) → Contains slots n → Open n → HasEndFor firsts after piece n
+
+-- of the slots in the rectangle
+pub record HaveGotEnds (grid : GridModel) (Open : ℕ → Type 0) (firsts : List ℕ) (boxes : List SlotBox) (piece layer : ℕ) (rect : RectModel)
+    (before after : List EndSlot) : Type 0 where
   pub slots : List ℕ
-  pub are : after ≡ before ++ map (end_at grid boxes piece) slots
+  pub got : HaveGotSlotEnds grid Open firsts boxes piece slots before after
   pub in_rect : (n : ℕ) → Contains slots n ↔ IsOneOf (IsNumberOf grid) (LiesInRect layer rect) n
   pub within : All (λ n. n < slot_total grid) slots
 

@@ -5,6 +5,7 @@ use Rattle.leg_rules.specs.Joins.Touch.{piece_count, LiesIn, Touch, AreJoined}
 use Rattle.leg_rules.specs.declared.node.Node.{Node}
 use Rattle.leg_wire.specs.declared.piece_shape.PieceShape.{PieceShape}
 use Rattle.leg_wire.specs.Joins.{JoinsModel}
+use Rattle.leg_wire.specs.PieceMarks.{AreMarks}
 use Rattle.leg_route_grid.specs.declared.slot_box.SlotBox.{SlotBox}
 use Rattle.leg_route_grid.specs.declared.hulls.Hull.{Hull}
 use Rattle.leg_route_grid.specs.Steps.Hulls.{AreHulls}
@@ -13,7 +14,8 @@ use Rattle.leg_route_grid.specs.Steps.Grid.{GridModel, IsNumberOf, slot_total}
 use Rattle.leg_route_grid.specs.Steps.NodeNumbers.{IsOneOf}
 use Rattle.leg_route_grid.specs.Steps.NodesInRect.{LiesInRect}
 use Rattle.leg_route.specs.Steps.EndSlots.{IsFarSlot}
-use Rattle.leg_route.specs.Steps.NetEnds.{EndsModel, AreNetEnds}
+use Rattle.leg_route.specs.declared.joined_part.JoinedPart.{JoinedPart}
+use Rattle.leg_route.specs.Steps.NetEnds.{EndsModel, ends_in, AreNetEnds}
 use Rattle.leg_route.specs.Steps.NetSlots.{MeetsMarked, IsPartOf}
 
 -- marks for the first pieces of a net, slots with the boxes in which they lie and the hulls of these, and ends
@@ -24,6 +26,17 @@ pub record PartModel : Type 0 where
   pub slots : List ℕ
   pub hulls : List Hull
   pub ends : EndsModel
+
+-- what the code keeps
+abbrev pub part_in : {A : Type 0} → JoinedPart A → PartModel
+part_in part = record {
+  net = part.net;
+  joined = part.joined.items;
+  boxes = part.slots.boxes.items;
+  slots = part.slots.slots.items;
+  hulls = part.hulls.items;
+  ends = ends_in part.ends;
+}
 
 -- the node meets a piece of the net that is marked
 pub record MeetsPart (flat : FlatModel) (net : ℕ) (joined : List Bool) (node : Node) : Type 0 where
@@ -36,7 +49,7 @@ abbrev pub LiesInPiece : FlatModel → ℕ → ℕ → Node → Type 0
 LiesInPiece flat net piece node = LiesIn flat net piece node.layer node.at
 
 -- The marked pieces are joined to the net's first one, which is one of them, and no other of these pieces touches them. The slots are
--- exactly those of nodes that meet them, and the ends those of nodes that meet the other pieces.
+-- exactly those of nodes that meet them, and the ends are of nodes that meet the other pieces.
 pub record IsJoinedPart (grid : GridModel) (flat : FlatModel) (part : PartModel) : Type 0 where
   pub few : length part.joined ≤ piece_count flat part.net
   pub still : (k : ℕ) → slice_get part.joined k ≡ Some true → AreJoined flat part.net 0 k
@@ -46,7 +59,7 @@ pub record IsJoinedPart (grid : GridModel) (flat : FlatModel) (part : PartModel)
   pub within : All (λ n. n < slot_total grid) part.slots
   pub boxed : AreBoxed grid part.boxes part.slots
   pub hulled : AreHulls part.boxes part.hulls
-  pub ends_are : AreNetEnds grid part.joined (LiesInPiece flat part.net) (IsFarSlot grid flat part.net part.boxes) part.ends
+  pub ends_are : AreNetEnds grid flat part.net part.joined (LiesInPiece flat part.net) (IsFarSlot grid flat part.net part.boxes) part.ends
 
 -- the pieces that were given are marked in the part, which is of that net
 abbrev pub AreGivenTo : PartModel → JoinsModel → Type 0
@@ -89,6 +102,7 @@ pub record IsGrowing (grid : GridModel) (flat : FlatModel) (numbers : List ℕ) 
   pub before : List Bool
   pub had : IsPartOf grid flat part.net before numbers part.boxes part.slots part.hulls part.ends
   pub still : (k : ℕ) → slice_get before k ≡ Some true → slice_get part.joined k ≡ Some true
+  pub marks : AreMarks (AreJoined flat part.net 0) (piece_count flat part.net) part.joined
   pub long : length before ≤ length part.joined
   pub later : (k : ℕ) → length before ≤ k → k < length part.joined → get_or part.joined k true ≡ true
   pub comes : (node : Node) → MeetsMarked flat.shapes part.joined true numbers node

@@ -1,5 +1,7 @@
 -- What is kept of the slots at which walks of a net end: near ones, and groups of far ones.
 use Rattle.std.specs.Prelude.{◌≡◌, ◌↔◌, ◌⊎◌, ◌+◌, ◌<◌, ◌≤◌, ℕ, Bool, List, length, get_or, Contains, Some, slice_get}
+use Rattle.leg_rules.specs.Metal.Flat.{FlatModel}
+use Rattle.leg_rules.specs.Joins.Touch.{AreJoined}
 use Rattle.leg_rules.specs.declared.node.Node.{Node}
 use Rattle.leg_route_grid.specs.declared.slot.Slot.{Slot}
 use Rattle.leg_route_grid.specs.declared.slot_box.SlotBox.{SlotBox}
@@ -9,7 +11,7 @@ use Rattle.leg_route_grid.specs.Steps.NodeNumbers.{IsOneOf}
 use Rattle.leg_route.specs.declared.end_slots.EndSlot.{EndSlot}
 use Rattle.leg_route.specs.declared.net_ends.EndGroup.{EndGroup}
 use Rattle.leg_route.specs.declared.net_ends.NetEnds.{NetEnds}
-use Rattle.leg_route.specs.Steps.EndSlots.{IsApart, IsEndSlot, end_at}
+use Rattle.leg_route.specs.Steps.EndSlots.{IsApart, IsOpenSlot, IsEndSlot, end_at}
 
 -- near ends, and a list of which groups are far ones
 pub record EndsModel : Type 0 where
@@ -56,11 +58,11 @@ pub record IsFarIn (listed : List EndSlot) (far : List EndGroup) (end : EndSlot)
   pub has : Contains far group
   pub is_in : IsInGroup listed group end
 
--- an end in this piece, of this slot, is near or far
-pub record HasEnd (ends : EndsModel) (piece n : ℕ) : Type 0 where
+-- an end at this slot, in a piece of the net that is joined to this one, is near or far
+pub record HasEnd (flat : FlatModel) (net : ℕ) (ends : EndsModel) (piece n : ℕ) : Type 0 where
   pub end : EndSlot
   pub is : Contains ends.near end ⊎ IsFarIn ends.listed ends.far end
-  pub of_piece : end.piece ≡ piece
+  pub joined : AreJoined flat net end.piece piece
   pub of_slot : end.slot ≡ n
 
 -- the slot is that of a node that meets the piece, which is one of those that have marks, and is so many steps away
@@ -69,12 +71,14 @@ pub record IsFarEnd (grid : GridModel) (joined : List Bool) (Meets : ℕ → Nod
   pub meets : IsOneOf (IsNumberOf grid) (Meets end.piece) end.slot
   pub far : Far steps end.slot
 
--- The near ends are in pieces that are not joined, and those of groups are or were; each slot in such a piece is one.
-pub record AreNetEnds (grid : GridModel) (joined : List Bool) (Meets : ℕ → Node → Type 0) (Far : ℕ → ℕ → Type 0) (ends : EndsModel) : Type 0 where
+-- The near ends are in pieces that are not joined, and those of groups are or were. At each open slot in such a piece there is one, in that piece
+-- or in one that is joined to it.
+pub record AreNetEnds (grid : GridModel) (flat : FlatModel) (net : ℕ) (joined : List Bool) (Meets : ℕ → Node → Type 0) (Far : ℕ → ℕ → Type 0)
+    (ends : EndsModel) : Type 0 where
   pub near : (end : EndSlot) → Contains ends.near end → IsEndSlot grid (IsApart joined) Meets Far end
   pub grouped : AreGroups grid ends.listed ends.far
   pub far : (group : EndGroup) (end : EndSlot) → Contains ends.far group → IsInGroup ends.listed group end → IsFarEnd grid joined Meets Far group.least end
-  pub all : (piece n : ℕ) → IsApart joined piece → IsOneOf (IsNumberOf grid) (Meets piece) n → HasEnd ends piece n
+  pub all : (piece n : ℕ) → IsApart joined piece → IsOneOf (IsNumberOf grid) (Meets piece) n → IsOpenSlot grid flat net n → HasEnd flat net ends piece n
 
 -- all ends of a list are kept: near, or in groups, to each of whose ends no fewer steps are left than to the group
 pub record AreKept (grid : GridModel) (ends : List EndSlot) (kept : EndsModel) : Type 0 where

@@ -45,7 +45,7 @@ pub record IsPartOf (grid : GridModel) (flat : FlatModel) (net : ℕ) (joined : 
     (boxes : List SlotBox) (slots : List ℕ) (hulls : List Hull) (ends : EndsModel) : Type 0 where
   pub starts : AreMarkedSlots grid flat.shapes joined true numbers boxes slots
   pub hulled : AreHulls boxes hulls
-  pub ends_are : AreNetEnds grid joined (MeetsPiece flat.shapes numbers) (IsFarSlot grid flat net boxes) ends
+  pub ends_are : AreNetEnds grid flat net joined (MeetsPiece flat.shapes numbers) (IsFarSlot grid flat net boxes) ends
 
 -- what a search of the net is given: what is open, and the slots in which its walks begin, with their boxes and the hulls of these
 pub record IsSearchFrom (grid : GridModel) (flat : FlatModel) (slots : List SlotAccess) (net : ℕ) (starts : List ℕ) (boxes : List SlotBox)

@@ -7,7 +7,7 @@ use Rattle.leg_route.proofs.end_slots.add_ends.Goals as goal
 pub returns : goal.returns
 returns g c = record {
   slots = c.add_slots_in.new.found.slots.items;
-  are = rw c.deref.ensures.value at c.in_ok-push_ends.ensures;
+  got = rw (c.deref.ensures.value, c.in_ok-note_places.ensures) at c.in_ok-push_ends.ensures;
   in_rect = λ n.
       let added = rw c.new.ensures.items at (c.in_ok-add_slots_in.ensures.added n) in
       (λ has. elim (added.0 has) [ inl none ↦ absurd (Contains-nil n none) | inr one ↦ one ], λ one. added.1 (inr one));

@@ -1,7 +1,9 @@
--- The ends so far.
-use Rattle.std.proofs.Common.{◌≡◌, ◌++◌, map, take}
-use Rattle.leg_route.specs.Steps.EndSlots.{end_at}
+-- The ends at the slots so far.
+use Rattle.std.proofs.Common.{take}
+use Rattle.leg_route_grid.specs.Steps.AccessToNet.{IsNodeAdmitted}
+use Rattle.leg_route.specs.Steps.EndSlots.{HaveGotSlotEnds}
 use Rattle.leg_route.proofs.end_slots.push_ends.Given as goal
 
 abbrev pub invariant-loop-slot : goal.invariant-loop-slot
-invariant-loop-slot g l = l.ends.items ≡ l.fn.ends.items ++ map (end_at l.grid l.boxes l.piece) (take l.slot-index l.slots)
+invariant-loop-slot g l =
+    HaveGotSlotEnds l.grid (IsNodeAdmitted l.table l.net) l.firsts l.boxes l.piece (take l.slot-index l.slots) l.fn.list.ends.items l.list.ends.items

@@ -3,7 +3,7 @@ use Rattle.leg_route.specs.Steps.EndSlots.{MeetsPiece, IsFarSlot}
 use Rattle.leg_route.specs.Steps.NetEnds.{ends_in, AreGroupsFrom}
 use Rattle.leg_route.specs.Steps.NetSlots.{AreMarkedSlots}
 use Rattle.leg_route.proofs.EndSlots.{was_apart, come_are, come_boxes, all_new}
-use Rattle.leg_route.proofs.JoinedParts.{part_in}
+use Rattle.leg_route.specs.Steps.JoinedPart.{part_in}
 use Rattle.leg_route.proofs.NetEnds.{near_ends_within, ends_grown}
 use Rattle.leg_route.proofs.PartMarks.{starts_grown}
 use Rattle.leg_route.proofs.joined_part.grown_part.Goals as goal
@@ -20,7 +20,7 @@ ends_left-requires-clause-within g c =
     let flat = c.args.flat.now in
     let growing = c.requires.growing in
     rw c.deref-3.ensures.value
-    (near_ends_within grid growing.before (MeetsPiece flat.shapes c.args.numbers.now) (IsFarSlot grid flat part.net part.slots.boxes.items)
+    (near_ends_within grid flat part.net growing.before (MeetsPiece flat.shapes c.args.numbers.now) (IsFarSlot grid flat part.net part.slots.boxes.items)
     (ends_in part.ends) growing.had.ends_are)
 
 pub ends_left-requires-clause-boxes : goal.ends_left-requires-clause-boxes
@@ -61,7 +61,7 @@ returns-clause-is g c =
       hulled = rw c.deref.ensures.value at c.in_ok-add_hulls.ensures;
       ends_are = rw kept
           (ends_grown c.args.grid.now c.args.flat.now part.net c.grid_is_sound.ensures.proper growing.before joined
-          (MeetsPiece c.args.flat.now.shapes c.args.numbers.now) old.items got.more (ends_in part.ends) c.in_ok-ends.field-0.items far
+          (MeetsPiece c.args.flat.now.shapes c.args.numbers.now) old.items got.more (ends_in part.ends) c.in_ok-ends.field-0.items far growing.marks
           (was_apart growing.before joined growing.still growing.later) growing.long growing.had.ends_are
           (rw (come, c.deref-3.ensures.value, c.deref-4.ensures.value) at c.in_ok-ends.ensures) groups new.boxes.items got.behind);
     }

@@ -6,8 +6,9 @@ use Rattle.leg_rules.specs.Metal.Metal.{wire_outlines}
 use Rattle.leg_rules.specs.Metal.MoreWires.{HasOneMoreWire}
 use Rattle.leg_rules.specs.Route.MoreWires.{HasMoreWires}
 use Rattle.leg_rules.specs.Route.MoreWires.HasMoreWires.{none}
+use Rattle.leg_lemmas.proofs.Places.{all_read}
 use Rattle.leg_route.proofs.MoreWires.{more_then}
-use Rattle.leg_route.proofs.NetTurn.{all_at, take_next, split_at}
+use Rattle.leg_route.proofs.NetTurn.{take_next, split_at}
 use Rattle.leg_route.proofs.net_turn.add_wires.Goals as goal
 
 pub loop-wire-init : goal.loop-wire-init
@@ -20,7 +21,7 @@ pub add-requires-clause-spelled : goal.add-requires-clause-spelled
 add-requires-clause-spelled g c =
     let design = g.G.Ground.design c.args.ground.now in
     let is =
-    all_at (IsWire design.library design.vias false) c.args.wires.now c.loop-wire.wire-index c.wire-item.result c.requires.spelled
+    all_read (IsWire design.library design.vias false) c.args.wires.now c.loop-wire.wire-index c.wire-item.result c.requires.spelled
     c.loop-wire-test.true c.wire-item.is in
     subst (λ d. IsWire d.library d.vias false c.wire-item.result) (sym c.loop-wire.invariant.same) is
 

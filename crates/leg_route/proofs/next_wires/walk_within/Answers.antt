@@ -31,9 +31,9 @@ walk_nearby-requires-clause-ends_within g c =
     let ends = c.bring_near.new.ends in
     let part : IsPartOf grid flat net joined numbers boxes starts hulls (ends_in ends) =
     part_near grid flat net joined numbers boxes starts hulls c.args.reach.now (ends_in old.ends) (ends_in ends) c.grid_is_sound.ensures.proper
-    (rw (c.deref.ensures.value, c.deref-2.ensures.value) at c.in_ok-bring_near.ensures) c.requires.part in
+    c.requires.joined (rw (c.deref.ensures.value, c.deref-2.ensures.value) at c.in_ok-bring_near.ensures) c.requires.part in
     rw c.deref_mut.ensures.value
-    (near_ends_within grid joined (MeetsPiece flat.shapes numbers) (IsFarSlot grid flat net boxes) (ends_in ends) part.ends_are)
+    (near_ends_within grid flat net joined (MeetsPiece flat.shapes numbers) (IsFarSlot grid flat net boxes) (ends_in ends) part.ends_are)
 
 pub walk_nearby-requires-clause-far : goal.walk_nearby-requires-clause-far
 walk_nearby-requires-clause-far g c =
@@ -49,9 +49,9 @@ walk_nearby-requires-clause-far g c =
     let ends = c.bring_near.new.ends in
     let part : IsPartOf grid flat net joined numbers boxes starts hulls (ends_in ends) =
     part_near grid flat net joined numbers boxes starts hulls c.args.reach.now (ends_in old.ends) (ends_in ends) c.grid_is_sound.ensures.proper
-    (rw (c.deref.ensures.value, c.deref-2.ensures.value) at c.in_ok-bring_near.ensures) c.requires.part in
+    c.requires.joined (rw (c.deref.ensures.value, c.deref-2.ensures.value) at c.in_ok-bring_near.ensures) c.requires.part in
     rw c.deref_mut.ensures.value
-    (near_ends_far grid joined (MeetsPiece flat.shapes numbers) (IsFarSlot grid flat net boxes) (ends_in ends) part.ends_are)
+    (near_ends_far grid flat net joined (MeetsPiece flat.shapes numbers) (IsFarSlot grid flat net boxes) (ends_in ends) part.ends_are)
 
 pub returns-then-is_empty-clause-answer : goal.returns-then-is_empty-clause-answer
 returns-then-is_empty-clause-answer g c =
@@ -67,7 +67,7 @@ returns-then-is_empty-clause-answer g c =
     let ends = c.bring_near.new.ends in
     let part : IsPartOf grid flat net joined numbers boxes starts hulls (ends_in ends) =
     part_near grid flat net joined numbers boxes starts hulls c.args.reach.now (ends_in old.ends) (ends_in ends) c.grid_is_sound.ensures.proper
-    (rw (c.deref.ensures.value, c.deref-2.ensures.value) at c.in_ok-bring_near.ensures) c.requires.part in
+    c.requires.joined (rw (c.deref.ensures.value, c.deref-2.ensures.value) at c.in_ok-bring_near.ensures) c.requires.part in
     let empty : length ends.far.items ≡ 0 = grind (arith, nat_tests, c.is_empty.ensures, c.if-is_empty.true, ends.far.ok.0) in
     near_answers flat net numbers c.requires.numbers joined c.requires.joined grid boxes starts hulls (ends_in ends) part _ _
     (rw c.deref_mut.ensures.value at c.in_ok-walk.ensures.answer) (nil_from_length ends.far.items empty)
@@ -86,7 +86,7 @@ returns-then-is_empty-clause-part g c =
     let ends = c.bring_near.new.ends in
     let part : IsPartOf grid flat net joined numbers boxes starts hulls (ends_in ends) =
     part_near grid flat net joined numbers boxes starts hulls c.args.reach.now (ends_in old.ends) (ends_in ends) c.grid_is_sound.ensures.proper
-    (rw (c.deref.ensures.value, c.deref-2.ensures.value) at c.in_ok-bring_near.ensures) c.requires.part in
+    c.requires.joined (rw (c.deref.ensures.value, c.deref-2.ensures.value) at c.in_ok-bring_near.ensures) c.requires.part in
     part_again grid flat net joined numbers boxes starts hulls ends.near.items c.walk_nearby.new.ends ends.listed.items ends.far.items ends.near.len
     (omega (arith, ends.near.ok.0)) (rw c.deref_mut.ensures.value at c.walk_nearby.ensures.same) c.walk_nearby.ensures.far part
 
@@ -104,7 +104,7 @@ returns-then-len-least-clause-answer g c =
     let ends = c.bring_near.new.ends in
     let part : IsPartOf grid flat net joined numbers boxes starts hulls (ends_in ends) =
     part_near grid flat net joined numbers boxes starts hulls c.args.reach.now (ends_in old.ends) (ends_in ends) c.grid_is_sound.ensures.proper
-    (rw (c.deref.ensures.value, c.deref-2.ensures.value) at c.in_ok-bring_near.ensures) c.requires.part in
+    c.requires.joined (rw (c.deref.ensures.value, c.deref-2.ensures.value) at c.in_ok-bring_near.ensures) c.requires.part in
     let nodes = c.in-Some.nodes in
     let beyond : (group : EndGroup) → Contains ends.far.items group → length nodes.items ≤ group.least = λ group has.
     let least = c.least_far-least.ensures group (rw c.deref-5.ensures.value has) in
@@ -126,7 +126,7 @@ returns-then-len-least-clause-part g c =
     let ends = c.bring_near.new.ends in
     let part : IsPartOf grid flat net joined numbers boxes starts hulls (ends_in ends) =
     part_near grid flat net joined numbers boxes starts hulls c.args.reach.now (ends_in old.ends) (ends_in ends) c.grid_is_sound.ensures.proper
-    (rw (c.deref.ensures.value, c.deref-2.ensures.value) at c.in_ok-bring_near.ensures) c.requires.part in
+    c.requires.joined (rw (c.deref.ensures.value, c.deref-2.ensures.value) at c.in_ok-bring_near.ensures) c.requires.part in
     part_again grid flat net joined numbers boxes starts hulls ends.near.items c.walk_nearby.new.ends ends.listed.items ends.far.items ends.near.len
     (omega (arith, ends.near.ok.0)) (rw c.deref_mut.ensures.value at c.walk_nearby.ensures.same) c.walk_nearby.ensures.far part
 
@@ -144,6 +144,6 @@ returns-clause-part g c =
     let ends = c.bring_near.new.ends in
     let part : IsPartOf grid flat net joined numbers boxes starts hulls (ends_in ends) =
     part_near grid flat net joined numbers boxes starts hulls c.args.reach.now (ends_in old.ends) (ends_in ends) c.grid_is_sound.ensures.proper
-    (rw (c.deref.ensures.value, c.deref-2.ensures.value) at c.in_ok-bring_near.ensures) c.requires.part in
+    c.requires.joined (rw (c.deref.ensures.value, c.deref-2.ensures.value) at c.in_ok-bring_near.ensures) c.requires.part in
     part_again grid flat net joined numbers boxes starts hulls ends.near.items c.walk_nearby.new.ends ends.listed.items ends.far.items ends.near.len
     (omega (arith, ends.near.ok.0)) (rw c.deref_mut.ensures.value at c.walk_nearby.ensures.same) c.walk_nearby.ensures.far part

@@ -1,7 +1,7 @@
 use Rattle.std.proofs.Common.{◌≡◌, [], ◌++◌, length, take, drop, refl, sym, ap, ◌∙◌, arith}
 use Rattle.std.proofs.Math.Seq.{take-append_seam}
 use Rattle.std.proofs.lemmas.List.{get_or_read}
-use Rattle.leg_route.proofs.JoinedParts.{part_in}
+use Rattle.leg_route.specs.Steps.JoinedPart.{part_in}
 use Rattle.leg_route.proofs.Ready.{ready_more}
 use Rattle.leg_route.proofs.grid_ground.GridGroundGround.add.Goals as goal
 

@@ -5,9 +5,9 @@ use Rattle.leg_wire.specs.PieceMarks.{AreMarks}
 use Rattle.leg_rules.specs.Joins.Touch.{piece_count, AreJoined}
 use Rattle.leg_rules.specs.Joins.Violations.{IsOpenNet}
 use Rattle.leg_route.specs.Steps.NetSlots.{IsPartOf}
-use Rattle.leg_route.specs.Steps.JoinedPart.{AreGivenTo}
+use Rattle.leg_route.specs.Steps.JoinedPart.{part_in, AreGivenTo}
 use Rattle.leg_route.specs.Steps.NetEnds.{ends_in}
-use Rattle.leg_route.proofs.JoinedParts.{part_in, part_of}
+use Rattle.leg_route.proofs.JoinedParts.{part_of}
 use Rattle.leg_route.proofs.KeptJoins.{given_kept}
 use Rattle.leg_route.proofs.PartMarks.{have_come, given_then, joins_given}
 use Rattle.leg_route.proofs.grid_ground.GridGroundGround.next.Goals as goal
@@ -30,6 +30,9 @@ part_now-requires-clause-numbers g c =
     c.as_slice-own.ensures ∙ get_or_read lists net c.index.result.now (omega (arith, c.requires.in_range, numbers.one_each)) c.index.ensures [] in
     rw list (numbers.each net c.requires.in_range)
 
+pub part_now-requires-clause-told : goal.part_now-requires-clause-told
+part_now-requires-clause-told g c = rw c.deref.ensures.value (c.requires.ready.told c.args.self.now.flat refl)
+
 pub part_now-requires-clause-joins : goal.part_now-requires-clause-joins
 part_now-requires-clause-joins g c =
     joins_given c.args.self.now.flat c.in_ok-joins.joins c.take_joined.new.self c.in_ok-come.come.items c.in_ok-joins.ensures.of
@@ -49,7 +52,7 @@ part_now-requires-clause-come g c =
     let part = part_in ground.part in
     let given : AreGivenTo part joins =
     given_kept part ground.joins joins c.requires.ready.given_are (rw c.take-kept.ensures.value at c.in_ok-joins.ensures.given) in
-    rw c.deref.ensures.value
+    rw c.deref-2.ensures.value
     (have_come ground.grid flat net part joins come c.requires.ready.part_is c.in_ok-joins.ensures.net given
     (c.in_ok-come.ensures.joined flat c.in_ok-joins.ensures.of) c.of_net-part.result.joined.items
     (λ same. rw (c.of_net-part.ensures.same (rw c.replace-part.ensures.value same), c.replace-part.ensures.value) refl))
@@ -64,7 +67,7 @@ next_wires-requires-clause-numbers g c =
     rw list (numbers.each net c.requires.in_range)
 
 pub next_wires-requires-clause-told : goal.next_wires-requires-clause-told
-next_wires-requires-clause-told g c = rw c.deref-2.ensures.value (c.requires.ready.told c.args.self.now.flat refl)
+next_wires-requires-clause-told g c = rw c.deref-3.ensures.value (c.requires.ready.told c.args.self.now.flat refl)
 
 pub returns-then-not-is_one_apart-clause-ready : goal.returns-then-not-is_one_apart-clause-ready
 returns-then-not-is_one_apart-clause-ready g c =
