@@ -5,8 +5,8 @@ import said as of
 from edit import DoesNotFit, read_edit
 from source import functions_below
 
-# How many edits a round has at most.
-MOST = 16
+# How many edits a round has at most, and how many where the time is short.
+MOST, FEW = 16, 4
 REFUSED, KEPT, SAME, UNFIT, FAILED, LATE = 'refused', 'kept', 'same', 'unfit', 'failed', 'late'
 WORDS = {
     REFUSED: 'refused, as it must be',
@@ -26,6 +26,11 @@ class Result(NamedTuple):
 
     def __str__(self):
         return f'{self.name}: {WORDS[self.kind]}' + f': {self.why}' * bool(self.why)
+
+
+def from_both_ends(items):
+    """Returns the first of the items, the last, the second, the last but one, and so on."""
+    return [it for pair in zip(items, reversed(items)) for it in pair][:len(items)]
 
 
 def label(edit):
@@ -52,8 +57,8 @@ class Trial:
             except (DoesNotFit, OSError, ValueError) as error:
                 self.results.append(Result(f'{crate}/{path.stem}', FAILED, f'it does not fit: {error}'))
 
-    def next_round(self):
-        """Returns the edits of the next round: of functions none of which is known to call another one."""
+    def next_round(self, most=MOST):
+        """Returns the edits of the next round, so many at most: of functions none of which is known to call another one."""
         made = []
         for edit in self.left:
             if edit.is_alone or edit in self.alone:
@@ -62,7 +67,7 @@ class Trial:
                 continue
             others = {it for other in made for it in other.functions}
             is_apart = any((a, b) in self.apart or (b, a) in self.apart for a in others for b in edit.functions)
-            if not others & {*edit.functions} and not is_apart and len(made) < MOST:
+            if not others & {*edit.functions} and not is_apart and len(made) < most:
                 made.append(edit)
         return made
 

@@ -19,7 +19,7 @@ import record
 import said
 import source
 from edit import DoesNotFit, make, read_edit
-from rounds import FAILED, KEPT, LATE, REFUSED, UNFIT, Trial
+from rounds import FAILED, KEPT, LATE, REFUSED, UNFIT, Trial, from_both_ends
 
 LIB = '''//! Counts.
 
@@ -404,10 +404,14 @@ class RunTests(Room):
         self.assertEqual(self.last('--record', says=['fn counts::least: proved'])[0], 1)
         self.assertNotIn('counts ', (self.edits / 'tried').read_text(encoding='utf-8').replace('# ', ''))
 
-    def test_what_there_is_no_time_for_counts_as_nothing(self):
+    def test_what_there_is_no_time_for_counts_as_nothing_but_one_edit_is_tried(self):
+        shutil.copy(str(self.edit('least_is_the_first', ('a < b', 'true'))), str(self.edits / 'counts'))
         status, out = self.run_script('--changed', '--minutes', '0', says=self.REFUSAL)
-        self.assertEqual((status, out.splitlines()[-1]), (1, '0 passed, 0 failed'))
+        self.assertEqual((status, out.splitlines()[-1]), (0, '1 passed, 0 failed'))
         self.assertIn('not tried, for want of time: counts/least_is_greatest', out)
+
+    def test_where_time_is_short_a_lower_crate_comes_after_each_upper_one(self):
+        self.assertEqual([from_both_ends(it) for it in ([], [3], [3, 2, 1], [4, 3, 2, 1])], [[], [3], [3, 1, 2], [4, 1, 3, 2]])
 
 
 class LibraryTests(unittest.TestCase):
