@@ -7,6 +7,7 @@ use Rattle.leg_rules.specs.Metal.Flat.{FlatModel}
 use Rattle.leg_route_search.specs.Steps.SideSteps.{IsStep}
 use Rattle.leg_route_search.specs.Steps.Search.{IsShortestIfAny}
 use Rattle.leg_route_search.proofs.LastSteps.{end_open}
+use Rattle.leg_route_search.proofs.ReachedEnds.{walk_open}
 use Rattle.leg_rules.specs.Route.Walk.{IsShortest, NoWalk}
 use Rattle.leg_rules.specs.declared.node.Node.{Node}
 use Rattle.leg_route_grid.specs.declared.slot_access.SlotAccess.{SlotAccess}
@@ -17,7 +18,6 @@ use Rattle.leg_route_grid.specs.Steps.WalkBounds.{IsNeighbourNear}
 use Rattle.leg_route_grid.specs.Steps.Grid.{GridModel, IsNumberOf}
 use Rattle.leg_route_grid.specs.Steps.AccessToNet.{IsNodeAdmitted, IsStepAdmitted}
 use Rattle.leg_route_grid.specs.Steps.NodeNumbers.{IsOneOf, IsNodeAmong}
-use Rattle.leg_route_grid.proofs.NumberedWalks.{walk_first}
 use Rattle.leg_finish.specs.Steps.Reach.{HasNoWay}
 
 module _ (grid : GridModel) (apart : (n : ℕ) (a b : Node) → IsNumberOf grid n a → IsNumberOf grid n b → a ≡ b)
@@ -36,7 +36,7 @@ module _ (grid : GridModel) (apart : (n : ℕ) (a b : Node) → IsNumberOf grid 
       → ((n : ℕ) → Contains ends n ↔ IsOneOf (IsNumberOf grid) End n)
       → HasNoWay grid flat net starts ends ↔ NoWalk (IsOpenNode grid.design flat net) (IsOpenStep grid.design flat net) Start End
   same_way flat net starts ends Start End first last = (
-    λ none a b nodes start is_end walk. none a b nodes (among starts Start first a (walk_first walk).is_node start)
+    λ none a b nodes start is_end walk. none a b nodes (among starts Start first a (walk_open walk).is_node start)
         (among ends End last b (end_open walk).is_node is_end) walk,
     λ none a b nodes start is_end walk. none a b nodes (holds_of starts Start first a start) (holds_of ends End last b is_end) walk,
   )

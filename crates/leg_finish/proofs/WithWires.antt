@@ -1,6 +1,5 @@
 -- The design that got the wires that were laid out and judged.
-use Rattle.std.proofs.Common.{◌≡◌, ◌↔◌, ◌+◌, ◌≤◌, ℕ, List, [], ◌∷◌, false, All, length, map, sum_by, inl, inr, refl, arith}
-use Rattle.std.proofs.lemmas.List.Sums.{sum_by-cons}
+use Rattle.std.proofs.Common.{◌≡◌, ◌↔◌, ◌+◌, ◌≤◌, ℕ, List, [], false, All, length, sum_by, inl, inr, arith}
 use Rattle.leg_lib_records.specs.Sound.{IsSound}
 use Rattle.leg_rules.specs.Placement.Violations.{IsPlacementViolation}
 use Rattle.leg_design_records.specs.declared.fault.Fault.{Fault}
@@ -81,12 +80,3 @@ module _ (design : DesignModel) (lists : List (List Wire)) (it : AreFinishing de
 
     pub legal_then : ShapesStayAsMany → (end : FlatModel) → IsFlatOf (finished design lists) end → IsLegal (finished design lists)
     legal_then stay end is_end = record { flat = end; judged = record { few = few_shapes stay; is_flat = is_end }; none = no_violation }
-
--- lists that hold their wires
-pub sum_mapped : {X Y : Type 0} (xs : List X) (g : X → Y) (f : Y → ℕ) → sum_by f (map g xs) ≡ sum_by (λ x. f (g x)) xs
-sum_mapped [] g f = refl
-sum_mapped (x ∷ xs) g f =
-    let first = sum_by-cons f (g x) (map g xs) in
-    let then = sum_by-cons (λ x. f (g x)) x xs in
-    let rest = sum_mapped xs g f in
-    omega (arith, first, then, rest)

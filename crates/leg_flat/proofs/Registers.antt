@@ -1,5 +1,5 @@
 -- Numbers in registers, and shapes of metal that are one piece.
-use Rattle.std.proofs.Common.{◌≡◌, ◌↔◌, ℕ, ℤ, List, [], ◌∷◌, ◌++◌, Result, Ok, Err, OnOk, w64, to_z, of_z, refl, ◌∙◌}
+use Rattle.std.proofs.Common.{◌≡◌, ◌↔◌, ℕ, ℤ, List, [], ◌∷◌, ◌++◌, w64, to_z, of_z, refl, ◌∙◌}
 use Rattle.leg_lex.specs.Number.{IsNumber}
 use Rattle.leg_lex.proofs.InBits.{number_kept}
 use Rattle.leg_geom.specs.Plane.{PointModel, RectModel, IsRect, HasPoint}
@@ -13,11 +13,6 @@ use Rattle.leg_rules.specs.Metal.Metal.{Belonging, belonging, wire_outlines}
 use Rattle.leg_flat.specs.Steps.Bounds.{IsLineWithin}
 use Rattle.leg_flat.specs.Steps.AddedMetal.{AddsMetal}
 use Rattle.leg_flat.proofs.MoreMetal.{adds_one}
-
--- what follows where there is no refusal
-pub on_ok : {T E : Type 0} (r : Result T E) (P Q : Type 0) → (P → Q) → OnOk r P → OnOk r Q
-on_ok (Ok x) P Q follows p = follows p
-on_ok (Err e) P Q follows p = tt
 
 same_size : (w h : ℤ) (size : ExtentModel) → w ≡ size.width → h ≡ size.height → record { width = w; height = h } ≡ size
 same_size w h size e f = rw (e, f) refl

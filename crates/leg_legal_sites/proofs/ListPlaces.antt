@@ -1,8 +1,6 @@
--- Elements of a list by their numbers, in a list in which one is another, and in one that has grown at its end.
-use Rattle.std.proofs.Common.{◌≡◌, ◌≢◌, ◌⊎◌, ℕ, ◌+◌, ◌-◌, ◌<◌, List, [], ◌∷◌, ◌++◌, Some, slice_get, length, get_or, set, refl, sym, ap, ◌∙◌, inl, inr, arith, length-set, get_or-set_other, length-append}
-use Rattle.std.proofs.lemmas.Bool.{cases_lt}
+-- Elements of a list by their numbers, in a list in which one is another.
+use Rattle.std.proofs.Common.{◌≡◌, ◌≢◌, ℕ, ◌-◌, ◌<◌, List, [], Some, slice_get, length, set, sym, ap, ◌∙◌, arith, length-set, get_or-set_other}
 use Rattle.std.proofs.lemmas.Grind.{get_or-set_at}
-use Rattle.std.proofs.lemmas.List.{get_or_append_left, get_or-append_right}
 use Rattle.std.proofs.lemmas.Option.{slice_get-get_or, slice_get_within, get_or_from_slice_get}
 
 module _ {X : Type 0} where
@@ -20,21 +18,7 @@ module _ {X : Type 0} where
       let within : j < length xs = omega (arith, below, all) in
       slice_get-get_or xs j b within ∙ ap Some (sym (get_or-set_other xs i j y b differ) ∙ get_or_from_slice_get (set xs i y) j b b at)
 
-  -- the last of a longer list, or one of the others
-  pub in_longer : (xs : List X) (x : X) (i : ℕ) (y : X) → slice_get (xs ++ x ∷ []) i ≡ Some y → (slice_get xs i ≡ Some y) ⊎ ((i ≡ length xs) × (y ≡ x))
-  in_longer xs x i y at =
-      let all : length (xs ++ x ∷ []) ≡ length xs + 1 = length-append xs (x ∷ []) in
-      let within : i < length (xs ++ x ∷ []) = slice_get_within (xs ++ x ∷ []) i y at in
-      let read : get_or (xs ++ x ∷ []) i y ≡ y = get_or_from_slice_get (xs ++ x ∷ []) i y y at in
-      elim (cases_lt i (length xs)) [
-        | inl early ↦ inl (slice_get-get_or xs i y early ∙ ap Some (sym (get_or_append_left xs (x ∷ []) y i early) ∙ read))
-        | inr late ↦
-            let last : i ≡ length xs = omega (arith, all, within, late) in
-            let none : i - length xs ≡ 0 = omega (arith, last) in
-            inr (last, sym read ∙ get_or-append_right xs (x ∷ []) (length xs) i y refl late ∙ ap (λ (n : ℕ). get_or (x ∷ []) n y) none)
-      ]
-
-  -- and that one is the new one
+  -- the new one stands where the other one stood
   pub set_there : (xs : List X) (i j : ℕ) (x y : X) → j ≡ i → slice_get xs j ≡ Some x → slice_get (set xs i y) j ≡ Some y
   set_there xs i j x y same at =
       let within : j < length xs = slice_get_within xs j x at in

@@ -2,12 +2,13 @@
 use Rattle.std.proofs.Common.{◌≡◌, ℕ, ◌+◌, ◌-◌, ◌*◌, ◌<◌, ◌≤◌, ◌++◌, [], ◌∷◌, List, length, set, Some, slice_get, inl, inr, sym, ap, ◌∙◌, arith, length-set, length-append}
 use Rattle.std.proofs.lemmas.Bool.{cases_lt, cases_eq}
 use Rattle.std.proofs.lemmas.Option.{same_Some, slice_get_within}
+use Rattle.leg_lemmas.proofs.Places.{last_or_before}
 use Rattle.leg_legal_sites.specs.declared.stretch.Stretch.{Stretch}
 use Rattle.leg_legal_sites.specs.declared.ends.Ends.{Ends}
 use Rattle.leg_legal_sites.specs.declared.part_groups.TheConstants.{GROUP}
 use Rattle.leg_legal_sites.specs.Steps.Stretches.{IsFreeSite, AreFreeSites}
 use Rattle.leg_legal_sites.specs.Steps.Parts.{all_of, AreInRow, AreNoMoreThan, IsPartSpan, AreAllFewer, DoEndBy, DoBeginBeyond, LieBefore, LieBeyond, AreNoLonger, AreGroups, IsShort, HasFirst, HasLast, AreNoneFree, NoneFitsBefore, NoneFitsFrom}
-use Rattle.leg_legal_sites.proofs.ListPlaces.{slice_get-set_same, slice_get-set_other, in_longer}
+use Rattle.leg_legal_sites.proofs.ListPlaces.{slice_get-set_same, slice_get-set_other}
 use Rattle.leg_legal_sites.proofs.Parts.{in_part, from_part, one_part}
 
 -- a part of a list that is read twice
@@ -81,7 +82,7 @@ module _ (parts : List (List Stretch)) where
       → AreNoLonger parts (GROUP * length groups) (GROUP * length groups + GROUP) most → AreGroups parts (groups ++ most ∷ [])
   group_more groups most are room longest = record {
     count = let one = length-append groups (most ∷ []) in omega (arith, one, room);
-    each = λ group other there. elim (in_longer groups most group other there) [
+    each = λ group other there. elim (last_or_before groups most group other there) [
       | inl early ↦ are.each group other early
       | inr last ↦ rw (last.0, last.1) longest
     ];

@@ -2,13 +2,13 @@
 use Rattle.std.proofs.Common.{◌≡◌, ◌⊎◌, ℕ, zero, suc, ◌+◌, ◌*◌, ◌<◌, ◌≤◌, List, [], ◌∷◌, ◌++◌, length, get_or, set, Some, slice_get, inl, inr, refl, sym, ap, ◌∙◌, arith, length-set, length-append}
 use Rattle.std.proofs.lemmas.Bool.{cases_eq}
 use Rattle.std.proofs.lemmas.Option.{same_Some, slice_get-get_or, slice_get_within}
-use Rattle.leg_lemmas.proofs.Places.{set_elsewhere}
+use Rattle.leg_lemmas.proofs.Places.{last_or_before, set_elsewhere}
 use Rattle.leg_legal_sites.specs.declared.bounds.Bounds.{Bounds}
 use Rattle.leg_legal_sites.specs.declared.row_keys.RowKey.{RowKey}
 use Rattle.leg_legal_sites.specs.Steps.Bounds.{DoCover}
 use Rattle.leg_legal_sites.specs.Steps.TreeOfRows.{IsLevelsBeneath, IsLeafBeneath, AreNodes}
 use Rattle.leg_legal_sites.specs.Steps.RowTree.{AreLeavesUpTo, AreJoinedFrom}
-use Rattle.leg_legal_sites.proofs.ListPlaces.{slice_get-set_same, slice_get-set_other, in_longer}
+use Rattle.leg_legal_sites.proofs.ListPlaces.{slice_get-set_same, slice_get-set_other}
 
 -- a node beneath another has no lower number
 pub not_before : (levels node other : ℕ) → IsLevelsBeneath levels node other → node ≤ other
@@ -186,7 +186,7 @@ module _ (order : List RowKey) where
         → AreLeavesUpTo order Fits place nodes → AreLeavesUpTo order Fits (place + 1) (nodes ++ bounds ∷ [])
     leaves_more place key nodes bounds at fits so_far = record {
       count = omega (arith, so_far.count, length-append nodes (bounds ∷ []));
-      fit = λ other its told below there_at there. elim (in_longer nodes bounds (length order + other) told there) [
+      fit = λ other its told below there_at there. elim (last_or_before nodes bounds (length order + other) told there) [
         | inl before ↦
             so_far.fit other its told (let within = slice_get_within nodes (length order + other) told before in omega (arith, within, so_far.count))
             there_at before

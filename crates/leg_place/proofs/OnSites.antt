@@ -4,6 +4,7 @@ use Rattle.std.proofs.Math.IntN.{pos-*ℤ-pos}
 use Rattle.std.proofs.Math.Nat.{div-mul-le_self, lt-div-mul-add, mul-le-mul_right}
 use Rattle.std.proofs.lemmas.Bool.{cases_lt}
 use Rattle.std.proofs.lemmas.Int.{ints}
+use Rattle.std.proofs.lemmas.Nat.{div_below, le-div}
 use Rattle.leg_lemmas.proofs.Naturals.{product_more}
 use Rattle.leg_geom.specs.Plane.{PointModel, RectModel, HasSquare}
 use Rattle.leg_lib_records.specs.Measure.{ExtentModel, HasArea}
@@ -26,28 +27,6 @@ pub record IsEdge (row : Row) (size : ExtentModel) (x : ℤ) : Type 0 where
   pub is : x ≡ row.at.x +ℤ pos k *ℤ size.width
   pub within : pos k ≤ℤ row.count
 
--- the first of the sites with the number k lies at or before d, and the next one behind it, where k is d / n
-module _ (d n : ℕ) (some : 0 < n) where
-  site_begins : d / n * n ≤ d
-  site_begins = div-mul-le_self d n
-
-  site_ends : d < d / n * n + n
-  site_ends = lt-div-mul-add some
-
-  from_site : (f : ℕ) → f * n ≤ d → f ≤ d / n
-  from_site f upto =
-      elim (cases_lt (d / n) f) [
-        | inl low ↦ absurd (omega (arith, mul-le-mul_right {m = d / n + 1} {n = f} n (omega arith), product_more (d / n) n, site_ends, upto))
-        | inr high ↦ high
-      ]
-
-  below_site : (l : ℕ) → d < l * n → d / n < l
-  below_site l below =
-      elim (cases_lt (d / n) l) [
-        | inl low ↦ low
-        | inr high ↦ absurd (omega (arith, mul-le-mul_right n high, site_begins, below))
-      ]
-
 -- so many sites, as a length: the left edge of the site behind them
 pub sites_long : (size : ExtentModel) (n : ℕ) → size.width ≡ pos n → (k : ℕ) → pos k *ℤ size.width ≡ pos (k * n)
 sites_long size n width k = rw width (pos-*ℤ-pos k n)
@@ -65,11 +44,11 @@ module _ (row : Row) (size : ExtentModel) (box : RectModel) (n : ℕ) (width : s
         let k = d / n in
         record {
           k = k;
-          from = from_site d n some f from;
-          below = omega (arith, below_site d n some l upto, order);
+          from = le-div f d n some from;
+          below = omega (arith, div_below d n l some upto, order);
           inside = record {
-            left = rw (sites_long size n width k) (omega (arith, ints, apart, site_begins d n some));
-            right = rw (sites_long size n width (k + 1)) (omega (arith, ints, apart, site_ends d n some, product_more k n));
+            left = rw (sites_long size n width k) (omega (arith, ints, apart, div-mul-le_self d n));
+            right = rw (sites_long size n width (k + 1)) (omega (arith, ints, apart, lt-div-mul-add {a = d} {b = n} some, product_more k n));
             bottom = omega (arith, ints, c.bottom, bottom);
             top = omega (arith, ints, c.top, top);
           };

@@ -2,7 +2,7 @@
 use Rattle.std.proofs.Common.{◌≡◌, ◌↔◌, ℕ, ◌+◌, ◌-◌, ◌*◌, ◌/◌, ◌%◌, ◌<◌, ◌≤◌, IsTrue, ℤ, pos, ◌+ℤ◌, ◌-ℤ◌, ◌*ℤ◌, ◌≤ℤ◌, unsigned_abs, FitsSigned, w64, inl, inr, refl, sym, ap, ◌∙◌, arith}
 use Rattle.std.proofs.Math.IntN.{pos-*ℤ-pos}
 use Rattle.std.proofs.lemmas.Bool.{cases_lt}
-use Rattle.std.proofs.Math.Nat.{mul-pos, mul-mod_left, mul-le-mul_right}
+use Rattle.std.proofs.Math.Nat.{add-mul, mul-pos, mul-mod_left, mul-le-mul_right}
 use Rattle.std.proofs.lemmas.Nat.{div-add-mod'}
 use Rattle.std.proofs.lemmas.Int.{ints, fits_signed_from_abs}
 use Rattle.leg_lex.specs.Number.{IsNumber}
@@ -16,7 +16,7 @@ use Rattle.leg_place.specs.Steps.SiteSpan.{span_of, row_box, covers}
 use Rattle.leg_place.specs.Steps.RowSpans.{IsWhole}
 use Rattle.leg_place.proofs.Mirrors.{same_rank}
 use Rattle.leg_place.proofs.OnSites.{IsWide, IsLevel, IsEdge, on_sites_from_edges, level_from_on_sites, left_from_on_sites, right_from_on_sites, sites_long}
-use Rattle.leg_place.proofs.Shift.{product_sum, same_shift, steps_between}
+use Rattle.leg_place.proofs.Shift.{same_shift, steps_between}
 use Rattle.leg_place.proofs.SpanOrder.{Reaches, same_parts, reaches_from_covers, covers_from_reaches}
 
 -- a box as high as a site is whole just where no part of a site remains of its width
@@ -84,7 +84,7 @@ module _ (row : Row) (size : ExtentModel) (box : RectModel) (n : ℕ) (width : s
     whole_between =
         let many = right.k - left.k in
         let sum : many + left.k ≡ right.k = omega (arith, edges_apart) in
-        let parts : right.k * n ≡ many * n + left.k * n = ap (λ k. k * n) (sym sum) ∙ product_sum many left.k n in
+        let parts : right.k * n ≡ many * n + left.k * n = ap (λ k. k * n) (sym sum) ∙ add-mul many left.k n in
         record {
           high = omega (arith, ints, level.bottom, level.top);
           many = many;
@@ -121,7 +121,7 @@ module _ (row : Row) (size : ExtentModel) (box : RectModel) (n : ℕ) (width : s
     right_end : box.x2 ≡ row.at.x +ℤ pos ((whole.many + steps.0) * n)
     right_end =
         let wide : box.x2 ≡ box.x1 +ℤ pos (whole.many * n) = whole.wide ∙ ap (λ l. box.x1 +ℤ l) (sites_long size n width whole.many) in
-        omega (arith, ints, wide, steps.1, product_sum whole.many steps.0 n)
+        omega (arith, ints, wide, steps.1, add-mul whole.many steps.0 n)
 
     within_count : pos (whole.many + steps.0) ≤ℤ row.count
     within_count =
@@ -131,7 +131,7 @@ module _ (row : Row) (size : ExtentModel) (box : RectModel) (n : ℕ) (width : s
         let reached : (whole.many + steps.0) * n ≤ m * n = omega (arith, ints, reach.right, right_end, all) in
         elim (cases_lt m (whole.many + steps.0)) [
           | inl beyond ↦
-              absurd (omega (arith, mul-le-mul_right {m = m + 1} {n = whole.many + steps.0} n (omega (arith, beyond)), product_sum m 1 n, reached, some))
+              absurd (omega (arith, mul-le-mul_right {m = m + 1} {n = whole.many + steps.0} n (omega (arith, beyond)), add-mul m 1 n, reached, some))
           | inr within ↦ omega (arith, ints, count, within)
         ]
 

@@ -1,14 +1,10 @@
 -- Numbers that lie a whole number of steps apart leave the same remainder, and the other way round.
 use Rattle.std.proofs.Common.{◌≡◌, ℕ, ◌+◌, ◌-◌, ◌*◌, ◌/◌, ◌%◌, ◌<◌, ◌≤◌, ℤ, pos, ◌+ℤ◌, ◌≤ℤ◌, unsigned_abs, inl, inr, sym, ap, ◌∙◌, arith}
 use Rattle.std.specs.Int.{int_rem_euclid}
-use Rattle.std.proofs.Math.Nat.{add-mul-mod_self_right, le-mul_of_pos_right, mul-le-mul_right}
+use Rattle.std.proofs.Math.Nat.{add-mul, add-mul-mod_self_right, le-mul_of_pos_right, mul-le-mul_right}
 use Rattle.std.proofs.lemmas.Nat.{div-add-mod'}
 use Rattle.std.proofs.lemmas.Bool.{cases_lt}
-use Rattle.std.proofs.lemmas.Grind.{common_steps}
 use Rattle.std.proofs.lemmas.Int.{ints, int_rem_euclid_is}
-
-pub product_sum : (k j n : ℕ) → (k + j) * n ≡ k * n + j * n
-product_sum k j n = grind (arith, common_steps)
 
 -- numbers of one remainder lie a whole number of steps apart
 quotients : (a b n : ℕ) → a % n ≡ b % n → a / n * n + a % n ≡ a → b / n * n + b % n ≡ b → a ≤ b → (k : ℕ) × (b ≡ a + k * n)
@@ -18,7 +14,7 @@ quotients a b n left a_is b_is below =
       | inr up ↦
           let k = a / n in
           let sum : (b / n - a / n) + k ≡ b / n = omega (arith, up) in
-          let parts : (b / n - a / n + k) * n ≡ (b / n - a / n) * n + k * n = product_sum (b / n - a / n) k n in
+          let parts : (b / n - a / n + k) * n ≡ (b / n - a / n) * n + k * n = add-mul (b / n - a / n) k n in
           let whole : (b / n - a / n + k) * n ≡ b / n * n = ap (λ q. q * n) sum in
           (b / n - a / n, omega (arith, left, a_is, b_is, parts, whole))
     ]

@@ -1,10 +1,11 @@
 -- The order of spans of sites, and which of them have all sites of another one.
-use Rattle.std.proofs.Common.{◌≡◌, ℕ, true, false, IsTrue, ℤ, ◌≤ℤ◌, ◌<ℤ◌, Ordering, Less, Equal, Greater, refl, sym, ap, ◌∙◌, arith}
-use Rattle.std.specs.Ordering.{is_eq, is_lt, is_gt, is_le, ordering_reverse, ordering_then, nat_cmp, int_cmp, int_eq}
+use Rattle.std.proofs.Common.{◌≡◌, true, false, IsTrue, ℤ, ◌≤ℤ◌, ◌<ℤ◌, Ordering, Less, Equal, Greater, refl, sym, ap, ◌∙◌, arith}
+use Rattle.std.specs.Ordering.{is_eq, is_lt, is_gt, is_le, ordering_reverse, ordering_then, int_cmp, int_eq}
 use Rattle.std.specs.Cmp.{IsTotalOrder}
 use Rattle.std.proofs.lemmas.Bool.{true≢false, false≢true, and_parts, and_from, eqb-true, eq-eqb}
-use Rattle.std.proofs.lemmas.Cmp.{upto, tied_itself, ranked, int_ranked, nat_cmp_total, int_cmp_total, on_total, then_total}
+use Rattle.std.proofs.lemmas.Cmp.{upto, tied_itself, nat_cmp_total, int_cmp_total, on_total, then_total}
 use Rattle.std.proofs.lemmas.Int.{ints, by_lt_z}
+use Rattle.std.proofs.lemmas.Map.Lookups.{exact_unsigned, exact_signed}
 use Rattle.leg_lemmas.proofs.Integers.{le_test, le_from_test, eq_from_test}
 use Rattle.leg_place.specs.declared.site_span.SiteLine.{SiteLine}
 use Rattle.leg_place.specs.declared.site_span.SiteSpan.{SiteSpan}
@@ -76,13 +77,6 @@ then_begin Equal Equal q t = refl
 then_begin Equal Greater q t = refl
 then_begin Greater p q t = refl
 
--- numbers that compare equal are
-nat_tied : (m n : ℕ) → nat_cmp m n ≡ Equal → m ≡ n
-nat_tied m n e = ranked m n Equal (sym e)
-
-int_tied : (x y : ℤ) → int_cmp x y ≡ Equal → x ≡ y
-int_tied x y e = int_ranked x y Equal (sym e)
-
 int_eq-same : (x y : ℤ) → x ≡ y → int_eq x y ≡ true
 int_eq-same x y e = ap is_eq (ap (int_cmp x) (sym e) ∙ tied_itself int_cmp_total x)
 
@@ -115,7 +109,8 @@ line_tied a b e =
     let site = then_equal _ _ e in
     let orient = then_equal _ _ site.1 in
     let rest = then_equal _ _ orient.1 in
-    same_parts a b (nat_tied a.site b.site site.0) (nat_tied a.orient b.orient orient.0) (int_tied a.bottom b.bottom rest.0) (int_tied a.shift b.shift rest.1)
+    same_parts a b (exact_unsigned a.site b.site site.0) (exact_unsigned a.orient b.orient orient.0) (exact_signed a.bottom b.bottom rest.0)
+    (exact_signed a.shift b.shift rest.1)
 
 -- what it means that a span has all sites of another
 pub record Reaches (a b : SiteSpan) : Type 0 where

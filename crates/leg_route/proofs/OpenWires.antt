@@ -6,7 +6,7 @@ use Rattle.leg_geom.specs.Plane.{PointModel}
 use Rattle.leg_lib_records.specs.declared.records.Direction.{Direction}
 use Rattle.leg_lib_records.specs.Sound.{IsSound, IsSoundLayer, HasWidth, IsWidth}
 use Rattle.leg_design_records.specs.declared.records.Wire.{Wire}
-use Rattle.leg_design_records.specs.declared.records.Wire.TheVariants.{Segment, ViaAt, Patch}
+use Rattle.leg_design_records.specs.declared.records.Wire.TheVariants.{Segment, ViaAt}
 use Rattle.leg_design_records.specs.Records.{DesignModel}
 use Rattle.leg_rules.specs.Metal.Flat.{FlatModel}
 use Rattle.leg_rules.specs.declared.side.Side.{Side}
@@ -15,14 +15,15 @@ use Rattle.leg_rules.specs.Route.Walk.Walk.{here, on}
 use Rattle.leg_rules.specs.declared.node.Node.{Node}
 use Rattle.leg_rules.specs.Route.Tracks.{Runs}
 use Rattle.leg_rules.specs.Route.Neighbours.{IsOver}
-use Rattle.leg_rules.specs.Route.StepWires.{half, square, NodeAdds, StepAdds}
+use Rattle.leg_rules.specs.Route.StepWires.{half, NodeAdds, StepAdds}
 use Rattle.leg_rules.specs.Route.OpenMetal.{IsOpenWire, IsOpenNode, IsOpenStep}
 use Rattle.leg_rules.specs.Route.Spelling.{IsOnLayer, IsStraight, Spells, AreWiresOf}
 use Rattle.leg_rules.specs.Route.Spelling.IsStraight.{one, more}
 use Rattle.leg_rules.specs.Route.Spelling.Spells.{done, through, along}
 use Rattle.leg_rules.specs.Route.Spelling.AreWiresOf.{stays, goes}
 use Rattle.leg_route_grid.proofs.OpenNodes.{one_width}
-use Rattle.leg_route_grid.proofs.OpenSteps.{one_layer, other_layer, same_via}
+use Rattle.leg_route_grid.proofs.OpenSteps.{other_layer}
+use Rattle.leg_route_grid.proofs.GrownSlots.{one_patch, one_wire}
 use Rattle.leg_route_laws.specs.Lines.{EachStep, last_spot}
 use Rattle.leg_lemmas.proofs.Places.{contains_at}
 use Rattle.leg_route.proofs.GrownLaws.{RunOfCleanWires}
@@ -66,20 +67,12 @@ module _ (run_of_clean : RunOfCleanWires) (design : DesignModel) (flat : FlatMod
 
   -- the wire that a node adds is the one that was asked
   node_clean : (a : Node) (wire : Wire) → IsOpenNode design flat net a → NodeAdds design a wire → Clean wire
-  node_clean a wire is_open adds =
-      let width : is_open.adds.width ≡ adds.width =
-      one_width design.library a.layer is_open.adds.direction adds.direction is_open.adds.width adds.width is_open.adds.runs adds.runs in
-      let same : is_open.wire ≡ wire = is_open.adds.is ∙ ap (λ w. Patch a.layer a.at (square (half w))) width ∙ sym adds.is in
-      subst Clean same is_open.clean
+  node_clean a wire is_open adds = subst Clean (one_patch design a is_open.wire wire is_open.adds adds) is_open.clean
 
   -- the via of an open step is clean
   via_clean : (via : ℕ) (a b : Node) → IsOver design via a b ⊎ IsOver design via b a → Step a b → Clean (ViaAt via a.at)
-  via_clean via a b over step = by step.adds where
-    by : StepAdds design a b step.wire → Clean (ViaAt via a.at)
-    by (inl line) = absurd (other_layer design via a b over (one_layer design a b line.in_line))
-    by (inr it) =
-        let same : step.wire ≡ ViaAt via a.at = it.is ∙ ap (λ k. ViaAt k a.at) (same_via design via it.via a b over it.over) in
-        subst Clean same step.clean
+  via_clean via a b over step =
+      subst Clean (one_wire design a b step.wire (ViaAt via a.at) step.adds (inr (record { via = via; over = over; is = refl }))) step.clean
 
   -- the segment of an open step along a layer is clean
   line_clean : (layer : ℕ) (direction : Direction) (width : ℤ) (a b : Node) → a.layer ≡ layer → Runs design.library layer direction width → a.layer ≡ b.layer

@@ -27,13 +27,13 @@ use Rattle.leg_route_grid.proofs.OpenSteps.{one_layer, other_layer, same_via, op
 use Rattle.leg_route_grid.proofs.StepsAt.{ends_are_nodes}
 
 -- a node adds one wire
-one_patch : (design : DesignModel) (node : Node) (wire other : Wire) → NodeAdds design node wire → NodeAdds design node other → wire ≡ other
+pub one_patch : (design : DesignModel) (node : Node) (wire other : Wire) → NodeAdds design node wire → NodeAdds design node other → wire ≡ other
 one_patch design node wire other adds also =
     let wide : adds.width ≡ also.width = one_width design.library node.layer adds.direction also.direction adds.width also.width adds.runs also.runs in
     adds.is ∙ ap (λ (w : ℤ). Patch node.layer node.at (square (half w))) wide ∙ sym also.is
 
 -- a step adds one wire
-one_wire : (design : DesignModel) (a b : Node) (wire other : Wire) → StepAdds design a b wire → StepAdds design a b other → wire ≡ other
+pub one_wire : (design : DesignModel) (a b : Node) (wire other : Wire) → StepAdds design a b wire → StepAdds design a b other → wire ≡ other
 one_wire design a b wire other (inl line) (inl also) =
     let wide : line.line.width ≡ also.line.width =
     one_width design.library a.layer line.line.direction also.line.direction line.line.width also.line.width line.line.runs also.line.runs in

@@ -2,7 +2,7 @@
 use Rattle.std.proofs.Common.{◌≡◌, ℕ, ◌+◌, ◌-◌, ◌<◌, ◌≤◌, ◌⊎◌, inl, inr, true, false, List, All, AllPairs, None, Some, length, get_or, slice_get, sym, subst, ◌∙◌, arith}
 use Rattle.std.specs.Prelude.{ltb}
 use Rattle.std.specs.List.Sorted.{IsPartitionedBy, IsPartitionPoint}
-use Rattle.std.proofs.lemmas.Bool.{cases_eq}
+use Rattle.std.proofs.lemmas.Bool.{cases_eq, ltb-true, ltb-false}
 use Rattle.std.proofs.lemmas.List.{length-map, get_or-map}
 use Rattle.std.proofs.lemmas.Option.{same_Some, slice_get_within, get_or_from_slice_get}
 use Rattle.leg_lib_records.specs.declared.joins.LayerUse.{LayerUse}
@@ -69,16 +69,12 @@ module _ (grid : GridModel) (is_grid : IsDesignGrid grid) (layer : ℕ) where
       (λ (own : RoutingLayer). ltb own.number layer ≡ false) grid.layers point) where
     below : (k : ℕ) (own : RoutingLayer) → slice_get grid.layers k ≡ Some own → k < point → own.number < layer
     below k own there early = let test = rw (get_or_from_slice_get grid.layers k own own there) at (is_point.0 k own (omega (arith, early)) early) in
-        less own.number layer test where
-          less : (a b : ℕ) → ltb a b ≡ true → a < b
-          less a b test = grind arith
+        ltb-true own.number layer test
 
     least : (k : ℕ) (own : RoutingLayer) → slice_get grid.layers k ≡ Some own → point ≤ k → layer ≤ own.number
     least k own there late = let test =
         rw (get_or_from_slice_get grid.layers k own own there) at (is_point.1 k own late (slice_get_within grid.layers k own there)) in
-        more own.number layer test where
-          more : (a b : ℕ) → ltb a b ≡ false → b ≤ a
-          more a b test = grind arith
+        ltb-false own.number layer test
 
     -- those behind the first that isn't below
     later : (k : ℕ) (own : RoutingLayer) → slice_get grid.layers k ≡ Some own → point < k → layer < own.number

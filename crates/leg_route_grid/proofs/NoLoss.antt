@@ -1,5 +1,6 @@
 -- A shape that takes away nothing of what is kept of a slot.
 use Rattle.std.proofs.Common.{◌≡◌, ◌≢◌, ℕ, inl, inr, ℤ, [], ◌∷◌, Bool, true, false, IsTrue, Contains, List, Some, slice_get, refl, sym, ap, subst, ◌∙◌}
+use Rattle.std.proofs.lemmas.Bool.{false≢true}
 use Rattle.std.proofs.lemmas.Option.{same_Some}
 use Rattle.leg_lemmas.proofs.Places.{the_only}
 use Rattle.leg_geom.specs.Plane.{PointModel, RectModel}
@@ -86,18 +87,14 @@ module _ (grid : GridModel) (n : ℕ) (shape : Shape) (slot : SlotAccess) (on_la
       → IsOpenWire grid.design (alone shape) net one.holds.wire
   node_wire one true is = own_wire grid.design shape net one.holds.wire (owns slot.node shape.owner net (settled.node is) ((tells.node net).1 one))
   node_wire one false is =
-      node_elsewhere grid.design shape net one.node one.holds.wire (λ same. not_set (sym is ∙ on one.node one.is same)) one.holds.adds where
-        not_set : false ≡ true → ⊥
-        not_set e = cc
+      node_elsewhere grid.design shape net one.node one.holds.wire (λ same. false≢true (sym is ∙ on one.node one.is same)) one.holds.adds
 
   along_wire : (is_open : IsOpenAlong grid flat net n) (a b : Node) (wire : Wire) → IsNumberOf grid n a → a.layer ≡ b.layer → StepAdds grid.design a b wire
       → (set : Bool) → on_layer ≡ set → IsOpenWire grid.design (alone shape) net wire
   along_wire is_open a b wire a_is same adds true is =
       own_wire grid.design shape net wire (owns slot.along shape.owner net (settled.along is) ((tells.along net).1 is_open))
   along_wire is_open a b wire a_is same adds false is =
-      step_elsewhere grid.design shape net a b wire same (λ here. not_set (sym is ∙ on a a_is here)) adds where
-        not_set : false ≡ true → ⊥
-        not_set e = cc
+      step_elsewhere grid.design shape net a b wire same (λ here. false≢true (sym is ∙ on a a_is here)) adds
 
   far_where_settled : IsFarFrom grid shape n flat net
   far_where_settled = record {

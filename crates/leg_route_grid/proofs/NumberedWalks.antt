@@ -2,13 +2,9 @@
 use Rattle.std.proofs.Common.{◌≡◌, ℕ, ◌≤◌, List, [], ◌∷◌, length, refl, sym, arith}
 use Rattle.std.specs.List.{AllZip}
 use Rattle.std.proofs.lemmas.Slice.Zip.{AllZip-long}
+use Rattle.leg_route_search.proofs.ReachedEnds.{walk_open}
 use Rattle.leg_route_grid.specs.Steps.NodeNumbers.{IsOneOf, IsStepOf}
 use Rattle.leg_rules.specs.Route.Walk.{Walk, here, on, IsShortest, NoWalk}
-
--- the first node of a walk is open
-pub walk_first : {Node : Type 0} {Open : Node → Type 0} {Step : Node → Node → Type 0} {a b : Node} {nodes : List Node} → Walk Open Step a nodes b → Open a
-walk_first (here is_open) = is_open
-walk_first (on is_open step rest) = is_open
 
 module _ {Node : Type 0} (Number : ℕ → Node → Type 0) (unique : (n : ℕ) (a b : Node) → Number n a → Number n b → a ≡ b) (Open : Node → Type 0)
     (Step : Node → Node → Type 0) where
@@ -71,7 +67,7 @@ module _ {Node : Type 0} (Number : ℕ → Node → Type 0) (unique : (n : ℕ) 
       walk = here (record { node = a; is = m_is; holds = is_open });
     }
     to_numbers {a} (on {b = b} is_open step rest) m m_is =
-        let next = numbered b (walk_first rest) in
+        let next = numbered b (walk_open rest) in
         let further = to_numbers rest next.0 next.1 in
         record {
           n = further.n;
@@ -87,7 +83,7 @@ module _ {Node : Type 0} (Number : ℕ → Node → Type 0) (unique : (n : ℕ) 
           → length numbers ≤ length others)
           → (a b : Node) (others : List Node) → Start a → End b → Walk Open Step a others b → length numbers ≤ length others
       none_shorter numbers least a b others start end walk =
-          let first = numbered a (walk_first walk) in
+          let first = numbered a (walk_open walk) in
           let same = to_numbers walk first.0 first.1 in
           let less =
           least first.0 same.n same.numbers (record { node = a; is = first.1; holds = start }) (record { node = b; is = same.n_is; holds = end }) same.walk in
@@ -95,7 +91,7 @@ module _ {Node : Type 0} (Number : ℕ → Node → Type 0) (unique : (n : ℕ) 
 
       pub no_walk : NoWalk OpenAt StepAt (IsOneOf Number Start) (IsOneOf Number End) → NoWalk Open Step Start End
       no_walk none a b nodes start end walk =
-          let first = numbered a (walk_first walk) in
+          let first = numbered a (walk_open walk) in
           let same = to_numbers walk first.0 first.1 in
           none first.0 same.n same.numbers (record { node = a; is = first.1; holds = start }) (record { node = b; is = same.n_is; holds = end }) same.walk
 

@@ -9,6 +9,7 @@ use Rattle.leg_lib_records.specs.Sound.{IsSound}
 use Rattle.leg_rules.specs.Metal.Flat.{FlatModel}
 use Rattle.leg_route_search.specs.Steps.SideSteps.{IsStep}
 use Rattle.leg_route_search.proofs.LastSteps.{end_open}
+use Rattle.leg_route_search.proofs.ReachedEnds.{walk_open}
 use Rattle.leg_rules.specs.Route.Walk.{Walk, here, on, IsShortest, NoWalk}
 use Rattle.leg_rules.specs.declared.node.Node.{Node}
 use Rattle.leg_route_grid.specs.declared.slot_access.SlotAccess.{SlotAccess}
@@ -20,7 +21,6 @@ use Rattle.leg_route_grid.specs.Steps.WalkBounds.{IsNeighbourNear}
 use Rattle.leg_route_grid.specs.Steps.NodeNumbers.{IsOneOf, IsStepOf, IsNextWalkAt, HasNoWalkAt}
 use Rattle.leg_route_grid.specs.Steps.AccessTable.{IsAccessTable}
 use Rattle.leg_route_grid.specs.Steps.AccessToNet.{IsNodeAdmitted, IsStepAdmitted}
-use Rattle.leg_route_grid.proofs.NumberedWalks.{walk_first}
 use Rattle.leg_route_grid.proofs.Bounds.{beside_near}
 use Rattle.leg_route_grid.proofs.OpenSteps.{steps_have_sides}
 use Rattle.leg_route_grid.proofs.AccessSteps.{node_admitted, step_admitted}
@@ -53,18 +53,18 @@ module _ {Node : Type 0} (Open Other : Node → Type 0) (Step Further : Node →
   shortest_as nodes is = record {
     from = is.from;
     to = is.to;
-    start = (starts is.from (walk_first is.walk)).0 is.start;
+    start = (starts is.from (walk_open is.walk)).0 is.start;
     is_end = (ends is.to (end_open is.walk)).0 is.is_end;
     walk = forth is.walk;
     least = λ a b others start end walk.
         let same = back walk in
-        is.least a b others ((starts a (walk_first same)).1 start) ((ends b (end_open same)).1 end) same;
+        is.least a b others ((starts a (walk_open same)).1 start) ((ends b (end_open same)).1 end) same;
   }
 
   pub none_as : NoWalk Open Step Start End → NoWalk Other Further First Last
   none_as none a b nodes start end walk =
       let same = back walk in
-      none a b nodes ((starts a (walk_first same)).1 start) ((ends b (end_open same)).1 end) same
+      none a b nodes ((starts a (walk_open same)).1 start) ((ends b (end_open same)).1 end) same
 
 module _ (grid : GridModel) (origin around : List SlotBox) (flat : FlatModel) (slots : List SlotAccess) (net : ℕ) where
   abbrev pub Admitted : ℕ → Type 0

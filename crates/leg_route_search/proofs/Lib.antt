@@ -4,7 +4,7 @@ mod Spread
 mod LeastBounds
 mod Sides
 -- What the marks say of walks
-mod ReachedEnds
+pub mod ReachedEnds
 mod SearchSoFar
 mod WayBack
 pub mod LastSteps

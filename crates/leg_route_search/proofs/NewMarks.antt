@@ -1,27 +1,14 @@
 -- Marks, and what a new one changes.
-use Rattle.std.proofs.Common.{◌≡◌, zero, suc, ℕ, ◌+◌, ◌<◌, false, cond, List, [], ◌∷◌, ◌++◌, length, get_or, slice_set, slice_get, count_by, Some, ◌⊎◌, inl, inr, refl, sym, ap, ◌∙◌, arith}
+use Rattle.std.proofs.Common.{◌≡◌, ℕ, ◌+◌, ◌<◌, false, cond, List, [], ◌∷◌, ◌++◌, length, get_or, slice_set, slice_get, count_by, Some, ◌⊎◌, inl, inr, refl, sym, ap, ◌∙◌, arith}
 use Rattle.std.proofs.lemmas.Bool.{cases_eq, false≢true}
 use Rattle.std.proofs.lemmas.List.Elements.{Contains-append_left, Contains-push, Contains-push_cases}
 use Rattle.std.proofs.lemmas.List.Sums.{sum_by-set}
 use Rattle.std.proofs.lemmas.Option.{get_or_from_slice_get, slice_get_within, slice_get-get_or}
 use Rattle.std.proofs.Math.ListN.{length-set}
+use Rattle.leg_lemmas.proofs.Places.{slice_set_here, slice_set_elsewhere}
 use Rattle.leg_route_search.specs.declared.mark.Mark.{Mark}
 use Rattle.leg_route_search.specs.declared.mark.Mark.TheVariants.{Unseen, Shut, Reached, Far}
 use Rattle.leg_route_search.specs.Steps.Marks.{is_unseen, AreUnseen, IsMark, IsNoted}
-
--- what a list has where it was written
-pub slice_get-set_same : {X : Type 0} (xs : List X) (i : ℕ) (v : X) → i < length xs → slice_get (slice_set xs i v) i ≡ Some v
-slice_get-set_same [] i v within = absurd (omega arith)
-slice_get-set_same (x ∷ xs) zero v within = refl
-slice_get-set_same (x ∷ xs) (suc i) v within = slice_get-set_same xs i v (omega arith)
-
--- and elsewhere
-pub slice_get-set_other : {X : Type 0} (xs : List X) (i j : ℕ) (v : X) → (j ≡ i → ⊥) → slice_get (slice_set xs i v) j ≡ slice_get xs j
-slice_get-set_other [] i j v other = refl
-slice_get-set_other (x ∷ xs) zero zero v other = absurd (other refl)
-slice_get-set_other (x ∷ xs) zero (suc j) v other = refl
-slice_get-set_other (x ∷ xs) (suc i) zero v other = refl
-slice_get-set_other (x ∷ xs) (suc i) (suc j) v other = slice_get-set_other xs i j v (λ same. other (ap suc same))
 
 -- a node has one mark
 pub one_mark : (marks : List Mark) (a : ℕ) (m n : Mark) → IsMark marks a m → IsMark marks a n → m ≡ n
@@ -41,7 +28,7 @@ unseen_no_mark marks a m unseen is =
 
 -- a new mark
 pub mark_here : (marks : List Mark) (to : ℕ) (v : Mark) → to < length marks → is_unseen v ≡ false → IsMark (slice_set marks to v) to v
-mark_here marks to v within seen = record { is = slice_get-set_same marks to v within; seen = seen }
+mark_here marks to v within seen = record { is = slice_set_here marks to v within; seen = seen }
 
 -- leaves the others as they were
 pub mark_kept : (marks : List Mark) (to : ℕ) (v : Mark) → slice_get marks to ≡ Some Unseen → (a : ℕ) (m : Mark) → IsMark marks a m
@@ -49,7 +36,7 @@ pub mark_kept : (marks : List Mark) (to : ℕ) (v : Mark) → slice_get marks to
 mark_kept marks to v unseen a m is =
     elim (cases_eq a to) [
       | inl same ↦ absurd (no_mark marks to m unseen (rw same at is))
-      | inr other ↦ record { is = slice_get-set_other marks to a v other ∙ is.is; seen = is.seen }
+      | inr other ↦ record { is = slice_set_elsewhere marks to a v other ∙ is.is; seen = is.seen }
     ]
 
 -- and is the only new one
@@ -59,8 +46,8 @@ mark_cases marks to v within a m is =
     elim (cases_eq a to) [
       | inl same ↦
           let here : IsMark (slice_set marks to v) to m = rw same at is in
-          inr (same, cc (here.is, slice_get-set_same marks to v within))
-      | inr other ↦ inl (record { is = sym (slice_get-set_other marks to a v other) ∙ is.is; seen = is.seen })
+          inr (same, cc (here.is, slice_set_here marks to v within))
+      | inr other ↦ inl (record { is = sym (slice_set_elsewhere marks to a v other) ∙ is.is; seen = is.seen })
     ]
 
 -- one node fewer is unseen
@@ -101,7 +88,7 @@ noted_pop marks noted node so_far =
           elim (mark_cases marks node Unseen within a m is) [
             | inl old ↦ elim (Contains-push_cases noted node a (so_far.each a m old)) [
               | inl there ↦ there
-              | inr same ↦ absurd (no_mark (slice_set marks node Unseen) node m (slice_get-set_same marks node Unseen within) (rw (← same) at is))
+              | inr same ↦ absurd (no_mark (slice_set marks node Unseen) node m (slice_set_here marks node Unseen within) (rw (← same) at is))
             ]
             | inr new ↦ absurd (false≢true (sym (ap is_unseen new.1 ∙ is.seen)))
           ];

@@ -6,7 +6,7 @@ use Rattle.leg_rules.specs.Route.Walk.Walk.{here, on}
 use Rattle.leg_route_search.specs.Steps.Marks.{IsAt}
 
 module _ {Node : Type 0} {Open : Node → Type 0} {Step : Node → Node → Type 0} where
-  -- and its first one is open
+  -- the first node of a walk is open
   pub walk_open : {a b : Node} {nodes : List Node} → Walk Open Step a nodes b → Open a
   walk_open (here is_open) = is_open
   walk_open (on is_open step rest) = is_open
@@ -17,8 +17,8 @@ module _ {Node : Type 0} {Open : Node → Type 0} {Step : Node → Node → Type
   bound_holds bound nearer at_end (here is_open) = omega arith
   bound_holds bound nearer at_end (on {a = a} {b = b} is_open step rest) = omega (arith, bound_holds bound nearer at_end rest, nearer a b step)
 
--- Marked nodes are followed where by what is left over the next node an end may be reached below d. So a walk from a marked node to
--- an end, which gets there below d, ends at a marked node.
+-- Each open node that a step leads to from a marked one is marked, where the steps to it and the fewest that are left from it come to
+-- less than d. So a walk that goes on from a marked node and gets to an end in less than d steps in all ends at a marked node.
 pub end_reached : {Open : ℕ → Type 0} {Step : ℕ → ℕ → Type 0} (bound : ℕ → ℕ) (d : ℕ) (marks : List Mark) → ((a b : ℕ) → Step a b → bound a ≤ bound b + 1)
     → ((a b level : ℕ) → IsAt marks a level → Step a b → Open b → level + 1 + bound b < d → (j : ℕ) × IsAt marks b j × (j ≤ level + 1))
     → {a b : ℕ} {nodes : List ℕ} (level : ℕ) → bound b ≡ 0 → IsAt marks a level → level + length nodes ≤ d → Walk Open Step a nodes b

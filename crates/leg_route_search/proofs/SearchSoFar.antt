@@ -2,6 +2,7 @@
 use Rattle.std.proofs.Common.{◌≡◌, ℕ, ◌+◌, ◌<◌, ◌≤◌, Bool, false, List, [], length, Contains, None, inl, inr, sym, ◌∙◌, arith}
 use Rattle.std.proofs.lemmas.Bool.{cases_lt, cases_eq, false≢true}
 use Rattle.std.proofs.lemmas.List.Sums.{count_by-le-length}
+use Rattle.leg_lemmas.proofs.Contents.{Contains-nil}
 use Rattle.leg_route_search.specs.declared.mark.Mark.{Mark}
 use Rattle.leg_route_search.specs.declared.mark.Mark.TheVariants.{Unseen, Shut, Reached, Far}
 use Rattle.leg_route_search.specs.Steps.Marks.{is_unseen, AreUnseen, IsMark, IsAt}
@@ -9,10 +10,6 @@ use Rattle.leg_route_search.specs.Steps.Spread.{IsNew, IsSpread}
 use Rattle.leg_route_search.specs.Steps.Search.{IsSearchSoFar, IsNearestSoFar, IsFound}
 use Rattle.leg_route_search.proofs.NewMarks.{unseen_no_mark}
 use Rattle.leg_route_search.proofs.ReachedEnds.{walk_open, bound_holds, end_reached, all_reached}
-
--- an empty list contains nothing
-none_there : (a : ℕ) → Contains [] a → ⊥
-none_there a there = omega (arith, there.1)
 
 module _ (Open : ℕ → Type 0) (Step : ℕ → ℕ → Type 0) (Start End : ℕ → Type 0) (bound : ℕ → ℕ) (limit : ℕ) where
   -- an open node with a new mark is reached
@@ -37,7 +34,7 @@ module _ (Open : ℕ → Type 0) (Step : ℕ → ℕ → Type 0) (Start End : �
             new_at (λ _ b. Start b) 0 next2 marks2 a seen.0 is_open seen.1 (is_new a seen.0 seen.1);
         low = λ a level is. let n = is_new a (Reached level is.0) is.1 in (omega (arith, n.0), omega (arith, n.0, n.1));
         in_front = λ a is. let n = is_new a (Reached 0 is.0) is.1 in n.4;
-        front_at = λ a there. elim (s.next_more a there) [ inl old ↦ absurd (none_there a old) | inr is ↦ is ];
+        front_at = λ a there. elim (s.next_more a there) [ inl old ↦ absurd (Contains-nil a old) | inr is ↦ is ];
         followed = λ a b level is below step is_open near. absurd (omega arith);
         no_end = λ a level is below is_end. omega arith;
         few = omega (arith, s.fewer, s.count, count_by-le-length is_unseen marks);
@@ -92,7 +89,7 @@ module _ (Open : ℕ → Type 0) (Step : ℕ → ℕ → Type 0) (Start End : �
           | inl old ↦ absurd (omega (arith, (u.low a (d + 1) (is.0, old)).0))
           | inr n ↦ n.4
         ];
-        front_at = λ a there. elim (s.next_more a there) [ inl old ↦ absurd (none_there a old) | inr is ↦ is ];
+        front_at = λ a there. elim (s.next_more a there) [ inl old ↦ absurd (Contains-nil a old) | inr is ↦ is ];
         followed = λ a b level is below step is_open near.
             let old = old_at a level is below in
             elim (cases_lt level d) [

@@ -5,6 +5,7 @@ use Rattle.std.proofs.lemmas.List.Sums.{count_by-le-length, sum_by-cons, sum_by_
 use Rattle.std.proofs.lemmas.List.Sorted.{sum_by-IsPermutation}
 use Rattle.leg_lemmas.proofs.Contents.{Contains-here, Contains-there}
 use Rattle.leg_sweep.specs.Counts.{count_pairs}
+use Rattle.leg_sweep.proofs.GridSums.{sum_by-map}
 
 -- sums of equal terms are equal
 sum_by_same : {X : Type 0} (f g : X → ℕ) → ((x : X) → f x ≡ g x) → (xs : List X) → sum_by f xs ≡ sum_by g xs
@@ -13,16 +14,12 @@ sum_by_same f g same xs =
     let down = sum_by-le-sum_by g f xs (λ x. omega (arith, same x)) in
     omega (arith, up, down)
 
--- a count over images
-count_by-map : {X Y : Type 0} (p : X → Bool) (f : Y → X) (ys : List Y) → count_by p (map f ys) ≡ count_by (λ y. p (f y)) ys
-count_by-map p f [] = refl
-count_by-map p f (y ∷ ys) =
-    omega (arith, count_by-map p f ys, sum_by-cons (λ x. cond (p x) 1 0) (f y) (map f ys), sum_by-cons (λ z. cond (p (f z)) 1 0) y ys)
-
 -- the pairs of images
 pub count_pairs-map : {X Y : Type 0} (test : X → X → Bool) (f : Y → X) (ys : List Y) → count_pairs test (map f ys) ≡ count_pairs (λ a b. test (f a) (f b)) ys
 count_pairs-map test f [] = refl
-count_pairs-map test f (y ∷ ys) = omega (arith, count_pairs-map test f ys, count_by-map (test (f y)) f ys)
+count_pairs-map test f (y ∷ ys) =
+    let first : count_by (test (f y)) (map f ys) ≡ count_by (λ z. test (f y) (f z)) ys = sum_by-map (λ x. cond (test (f y) x) 1 0) f ys in
+    omega (arith, count_pairs-map test f ys, first)
 
 module _ {X : Type 0} (test : X → X → Bool) where
   -- one more element makes a pair with each one before it

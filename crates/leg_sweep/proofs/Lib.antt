@@ -1,6 +1,6 @@
 -- Pairs and their order
 mod Unique
-mod Apart
+pub mod Apart
 mod PairLists
 mod Counts
 -- The sweep from left to right
@@ -8,7 +8,7 @@ mod SinkPairs
 mod Nearness
 mod Progress
 mod Tallies
-mod Turns
+pub mod Turns
 mod Places
 mod InOrder
 mod SweepSoFar
@@ -22,7 +22,7 @@ pub mod Lists
 pub mod Edges
 -- The bands of each layer
 mod GridHeights
-mod GridSums
+pub mod GridSums
 mod GridSpans
 mod GridBands
 mod GridPlaces

@@ -9,6 +9,7 @@ use Rattle.leg_sweep.specs.Pairs.{Before, ArePairs}
 use Rattle.leg_geom.specs.Pairs.{IsPair}
 use Rattle.leg_sweep.specs.Steps.Sweep.{ordered}
 use Rattle.leg_sweep.proofs.Lists.{Contains-nil, Contains-here, Contains-there, Contains-cons_cases, Contains-map, All-from_contains}
+use Rattle.leg_sweep.proofs.Turns.{ordered_below}
 use Rattle.leg_lib_records.specs.declared.records.Layer.{Layer}
 use Rattle.leg_rules.specs.declared.shape.Shape.{Shape}
 use Rattle.leg_wire.specs.Steps.TooCloseRule.{AreClose, AreClose-symmetric}
@@ -46,12 +47,6 @@ between_from firsts seconds p has =
 between_has : (firsts seconds : List ℕ) (i j : ℕ) → Contains firsts i → Contains seconds j → Contains (pairs_between firsts seconds) (ordered i j)
 between_has firsts seconds i j i_in j_in =
     Contains-flat_map (λ n. map (ordered n) seconds) firsts i (ordered i j) i_in (Contains-map (ordered i) seconds j j_in)
-
-ordered-less : (i j : ℕ) → i < j → ordered i j ≡ (i, j)
-ordered-less i j less =
-    let low : min i j ≡ i = omega (arith, less) in
-    let high : max i j ≡ j = omega (arith, less) in
-    rw (low, high) refl
 
 ordered-back : (i j : ℕ) → ordered i j ≡ ordered j i
 ordered-back i j =
@@ -119,7 +114,7 @@ module _ (layers : List Layer) (reach : ℕ) where
         let j_kind : slice_get numbers j ≡ Some q.1 = (are_members.each q.1 j second_in).0 between.j_in in
         elim (cases_lt i j) [
           | inl less ↦
-              let is : (i, j) ≡ p = sym (ordered-less i j less) ∙ between.is in
+              let is : (i, j) ≡ p = sym (ordered_below i j less) ∙ between.is in
               rw (← is) (record { a = s.shape; b = t.shape; a_at = s.at; b_at = t.at; in_order = less; holds = holds })
           | inr more ↦ elim (cases_eq i j) [
             | inl same ↦
@@ -127,7 +122,7 @@ module _ (layers : List Layer) (reach : ℕ) where
                 absurd (omega (arith, one, pair.in_order))
             | inr differ ↦
                 let less : j < i = omega (arith, more, differ) in
-                let is : (j, i) ≡ p = sym (ordered-less j i less) ∙ ordered-back j i ∙ between.is in
+                let is : (j, i) ≡ p = sym (ordered_below j i less) ∙ ordered-back j i ∙ between.is in
                 rw (← is) (record {
                   a = t.shape;
                   b = s.shape;
@@ -165,7 +160,7 @@ module _ (layers : List Layer) (reach : ℕ) where
     all_found (i, j) pair =
         let m = get_or numbers i 0 in
         let n = get_or numbers j 0 in
-        let here : ordered i j ≡ (i, j) = ordered-less i j pair.in_order in
+        let here : ordered i j ≡ (i, j) = ordered_below i j pair.in_order in
         elim (cases_lt m n) [
           | inl less ↦ rw here at (found_by i j pair.a pair.b pair.a_at pair.b_at pair.holds less)
           | inr more ↦ elim (cases_eq m n) [

@@ -5,8 +5,9 @@ use Rattle.leg_rules.specs.Legal.{IsLegal}
 use Rattle.leg_route_laws.specs.FinishedDesign.{finished}
 use Rattle.leg_design_records.specs.WellFormedNets.{IsWire}
 use Rattle.leg_rules.specs.Finish.Wires.{wire_length, is_via}
+use Rattle.leg_sweep.proofs.GridSums.{sum_by-map}
 use Rattle.leg_finish_search.proofs.Elements.{all_before}
-use Rattle.leg_finish.proofs.WithWires.{few_shapes, few_wires, few_added, legal_then, sum_mapped}
+use Rattle.leg_finish.proofs.WithWires.{few_shapes, few_wires, few_added, legal_then}
 use Rattle.leg_finish.proofs.AddedWires.{adds_to_open, have_totals}
 use Rattle.leg_finish.proofs.finishing.add_all.Goals as goal
 
@@ -15,7 +16,7 @@ totals_of-totals-requires g c =
     let few =
     few_added c.args.design (map (λ wires. wires.items) c.args.lists.items) c.requires c.shapes_stay_as_many.ensures c.finished_design_is_same.ensures.wires
     c.design_is_sound.ensures.library c.design_is_sound.ensures.proper in
-    let same = sum_mapped c.args.lists.items (λ wires. wires.items) (λ (wires : List Wire). length wires) in
+    let same = sum_by-map (λ (wires : List Wire). length wires) (λ wires. wires.items) c.args.lists.items in
     rw c.deref.ensures.value (omega (arith, few, same))
 
 pub with_all_wires-requires-clause-spelled : goal.with_all_wires-requires-clause-spelled
@@ -52,8 +53,8 @@ returns-in-Ok-clause-totals g c =
     let lists = map (λ wires. wires.items) c.args.lists.items in
     let total = rw c.deref.ensures.value at c.totals_of-totals.ensures.length in
     let vias = rw c.deref.ensures.value at c.totals_of-totals.ensures.vias in
-    let same = sum_mapped c.args.lists.items (λ wires. wires.items) (λ (wires : List Wire). sum_by wire_length wires) in
-    let same_vias = sum_mapped c.args.lists.items (λ wires. wires.items) (λ (wires : List Wire). count_by is_via wires) in
+    let same = sum_by-map (λ (wires : List Wire). sum_by wire_length wires) (λ wires. wires.items) c.args.lists.items in
+    let same_vias = sum_by-map (λ (wires : List Wire). count_by is_via wires) (λ wires. wires.items) c.args.lists.items in
     rw c.in-Ok.ensures.added
     (have_totals c.args.design lists c.totals_of-totals.result.length c.totals_of-totals.result.vias c.requires.laid.by_net.one_each (total ∙ sym same)
     (vias ∙ sym same_vias))

@@ -1,10 +1,10 @@
 use Rattle.std.proofs.Common.{◌≡◌, Some, None, slice_get, sym}
+use Rattle.std.proofs.lemmas.Result.{on_ok_weaker}
 use Rattle.leg_lemmas.proofs.Places.{all_at}
 use Rattle.leg_lib_records.specs.Sound.{IsSoundMaster}
 use Rattle.leg_flat.specs.Steps.AddedMetal.{master_of}
 use Rattle.leg_flat.proofs.MoreMetal.{adds_none, adds_same, adds_both}
 use Rattle.leg_flat.proofs.MetalWalks.{no_place, no_master}
-use Rattle.leg_flat.proofs.Registers.{on_ok}
 use Rattle.leg_flat.proofs.metal.add_component.Goals as goal
 
 pub returns-in_default : goal.returns-in_default
@@ -34,5 +34,5 @@ returns g c =
     sym (rw c.in-Some-Some.is-1 at c.master_numbered-master.ensures) in
     let of : master_of c.args.design.now c.args.number ≡ Some c.in-Some-Some.master.now = rw c.requires.there there in
     rw (c.in-Some-Some.is-0, there)
-    (on_ok c.add_obstructions.result _ _ (λ added. adds_both _ _ c.args.shapes.now.items _ c.add_obstructions.new.shapes.items
+    (on_ok_weaker c.add_obstructions.result (λ added. adds_both _ _ c.args.shapes.now.items _ c.add_obstructions.new.shapes.items
     (c.in_ok-add_pins.ensures c.args.design.now c.requires.nets of) added) c.add_obstructions.ensures)
