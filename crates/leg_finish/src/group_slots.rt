@@ -34,10 +34,7 @@ pub(crate) fn group_slots<A: Allocator + Copy>(
     requires { All (λ k. k < length shapes.now) numbers.now }
     ensures { IfOk result (λ found. AreSlotsOf grid.now shapes.now (IsJoinedAs firsts.now first is_joined) numbers.now found.boxes.items found.slots.items) }
 {
-    let mut found = BoxedSlots {
-        slots: Vec::new(alloc),
-        boxes: Vec::new(alloc),
-    };
+    let mut found = BoxedSlots::new(alloc);
     for number in numbers {
         let shape = &shapes[*number as usize];
         if is_joined_as(shape.piece, firsts, first, is_joined) {

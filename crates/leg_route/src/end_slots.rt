@@ -154,10 +154,7 @@ fn add_ends<A: Allocator + Copy>(
     requires hulls { AreHulls boxes.now hulls.now }
     ensures { OnOk result (HaveGotEnds grid.now (IsNodeAdmitted table.now net) firsts.now boxes.now piece layer rect.now list.old.ends.items list.new.ends.items) }
 {
-    let mut found = BoxedSlots {
-        slots: Vec::new(alloc),
-        boxes: Vec::new(alloc),
-    };
+    let mut found = BoxedSlots::new(alloc);
     add_slots_in(grid, layer, rect, &mut found)?;
     list.note_places(grid.size(), found.slots.len())?;
     push_ends(

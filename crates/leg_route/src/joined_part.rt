@@ -46,10 +46,7 @@ impl<A: Allocator + Copy> JoinedPart<A> {
         JoinedPart {
             net,
             joined: Vec::new(alloc),
-            slots: BoxedSlots {
-                slots: Vec::new(alloc),
-                boxes: Vec::new(alloc),
-            },
+            slots: BoxedSlots::new(alloc),
             hulls: Vec::new(alloc),
             ends: NetEnds {
                 near: Vec::new(alloc),

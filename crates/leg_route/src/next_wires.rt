@@ -54,10 +54,7 @@ pub(crate) fn marked_slots<A: Allocator + Copy>(
     requires { All (λ k. k < length shapes.now) numbers.now }
     ensures { IfOk result (λ found. AreMarkedSlots grid.now shapes.now marks.now mark numbers.now found.boxes.items found.slots.items) }
 {
-    let mut found = BoxedSlots {
-        slots: Vec::new(alloc),
-        boxes: Vec::new(alloc),
-    };
+    let mut found = BoxedSlots::new(alloc);
     for number in numbers {
         let shape = &shapes[*number as usize];
         if has_mark(shape.piece, marks, mark) {

@@ -1,5 +1,5 @@
 -- Slots of a grid by ranges of rows and columns.
-use Rattle.std.proofs.Common.{◌≡◌, ℕ, ◌+◌, ◌<◌, ◌≤◌, inl, inr, true, false, ℤ, ◌<ℤ◌, List, [], ◌∷◌, ◌++◌, All, AllPairs, Some, length, get_or, slice_get, sym, ap, ◌∙◌, arith}
+use Rattle.std.proofs.Common.{◌≡◌, ℕ, ◌+◌, ◌<◌, ◌≤◌, inl, inr, true, false, ℤ, ◌<ℤ◌, List, [], ◌∷◌, ◌++◌, Contains, All, AllPairs, Some, length, get_or, slice_get, sym, ap, ◌∙◌, arith}
 use Rattle.std.specs.Prelude.{int_lt, int_le, ltb}
 use Rattle.std.specs.List.Sorted.{IsPartitionedBy, IsPartitionPoint}
 use Rattle.std.proofs.lemmas.Bool.{cases_eq, cases_lt, cases_order}
@@ -158,18 +158,22 @@ module _ (At : ℕ → ℕ → Type 0) (first : ℕ) (before : List ℕ) where
     ],
   )
 
+-- one number that is added, and one that is listed
+pub got_added : (m : ℕ) (before after : List ℕ) → after ≡ before ++ m ∷ [] → HaveGot (λ n. n ≡ m) before after
+got_added m before after is n = rw is (
+  λ there. elim (Contains-push_cases before m n there) [ inl old ↦ inl old | inr same ↦ inr (sym same) ],
+  elim [ inl old ↦ Contains-append_left before (m ∷ []) n old | inr same ↦ rw same (Contains-push before m) ],
+)
+
+pub got_listed : (m : ℕ) (list : List ℕ) → Contains list m → HaveGot (λ n. n ≡ m) list list
+got_listed m list there n = (λ old. inl old, elim [ inl old ↦ old | inr same ↦ rw same there ])
+
 -- the number of one slot
-pub one_slot : (grid : GridModel) (m k j i : ℕ) (before after : List ℕ) → IsSlot grid m k j i → after ≡ before ++ m ∷ []
+pub one_slot : (grid : GridModel) (m k j i : ℕ) (before after : List ℕ) → IsSlot grid m k j i → HaveGot (λ n. n ≡ m) before after
     → HaveGot (λ n. IsSlot grid n k j i) before after
-one_slot grid m k j i before after slot is n = rw is (
-  λ there. elim (Contains-push_cases before m n there) [
-    | inl old ↦ inl old
-    | inr same ↦ inr (rw (← same) slot)
-  ],
-  elim [
-    | inl old ↦ Contains-append_left before (m ∷ []) n old
-    | inr also ↦ let same : m ≡ n = slot.is ∙ sym also.is in rw (← same) (Contains-push before m)
-  ],
+one_slot grid m k j i before after slot got n = (
+  λ there. elim ((got n).0 there) [ inl old ↦ inl old | inr same ↦ inr (rw same slot) ],
+  elim [ inl old ↦ (got n).1 (inl old) | inr also ↦ (got n).1 (inr (also.is ∙ sym slot.is)) ],
 )
 
 module _ (grid : GridModel) (is_grid : IsDesignGrid grid) (layer : ℕ) (rect : RectModel) where

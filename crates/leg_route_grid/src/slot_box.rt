@@ -1,6 +1,6 @@
 //! How many steps are left at least to some boxes of slots.
 
-ghost use Rattle.std.specs.Prelude.{◌≡◌, ◌<◌, ◌≤◌, ◌^◌, ℕ, min, length, All};
+ghost use Rattle.std.specs.Prelude.{◌≡◌, ◌<◌, ◌≤◌, ◌^◌, [], ℕ, min, length, All};
 ghost use Rattle.leg_route_grid.specs.Steps.Grid.{GridModel, slot_total};
 ghost use Rattle.leg_route_grid.specs.declared.slot.Slot.{Slot};
 ghost use Rattle.leg_route_grid.specs.Steps.WalkBounds.{gap, slot_bound, nearest, bound_at, IsBoxOf, IsInBox, AreBoxed};
@@ -24,10 +24,26 @@ pub struct SlotBox {
 pub struct BoxedSlots<A: Allocator> {
     pub slots: Vec<u32, A>,
     pub boxes: Vec<SlotBox, A>,
+    /// For each slot of the grid, where places are noted, the place in the list at which it stands, if it is listed.
+    pub(crate) places: Vec<u32, A>,
 }
 
 /// So few boxes are looked at one by one as fast as in an order.
 const FEW_BOXES: usize = 16;
+
+impl<A: Allocator + Copy> BoxedSlots<A> {
+    /// No slots.
+    pub fn new(alloc: A) -> BoxedSlots<A>
+        ensures slots { result.slots.items ≡ [] }
+        ensures boxes { result.boxes.items ≡ [] }
+    {
+        BoxedSlots {
+            slots: Vec::new(alloc),
+            boxes: Vec::new(alloc),
+            places: Vec::new(alloc),
+        }
+    }
+}
 
 impl<A: Allocator> BoxedSlots<A> {
     /// Puts the boxes in the order of their first rows, and of their first columns within a row, where they are many: so boxes that

@@ -54,6 +54,53 @@ fn slots_of(rows: (usize, usize), columns: (usize, usize)) -> usize {
     height.saturating_mul(width)
 }
 
+/// Where a slot is listed for so many of the grid, the places of slots are noted, and none is listed again: most of them lie in metal
+/// as large as the block.
+const SLOTS_PER_PLACE: u32 = 8;
+
+/// Whether the slot stands at the place in the list that is noted for it.
+fn is_listed(slots: &[u32], places: &[u32], slot: u32) -> bool
+    ensures { IsTrue result → Contains slots.now slot }
+{
+    let Some(place) = places.get(slot as usize) else {
+        return false;
+    };
+    match slots.get(*place as usize) {
+        Some(listed) => *listed == slot,
+        None => false,
+    }
+}
+
+/// Notes the place of the slot, where places are noted.
+fn note_place(places: &mut [u32], slot: u32, place: usize) {
+    if (slot as usize) < places.len() {
+        places[slot as usize] = place.min(u32::MAX as usize) as u32;
+    }
+}
+
+/// Notes the place of each slot in the list, where places are noted.
+fn note_all(places: &mut [u32], slots: &[u32]) {
+    for (place, slot) in slots.iter().enumerate() {
+        note_place(places, *slot, place);
+    }
+}
+
+/// Notes the place of each slot in the list from now on, where others are to come to it, so many that there may be one for every
+/// eighth slot of the grid, which has this many.
+fn note_places<A: Allocator>(
+    size: u32,
+    more: usize,
+    slots: &[u32],
+    places: &mut Vec<u32, A>,
+) -> Result<(), AllocError> {
+    let many = (size / SLOTS_PER_PLACE) as usize;
+    if places.is_empty() && !slots.is_empty() && slots.len().saturating_add(more) > many {
+        places.resize(size as usize, 0)?;
+        note_all(places, slots);
+    }
+    Ok(())
+}
+
 /// Drops those of the slots that lie in these rows and columns of a layer, where these have as many slots at least: else it would
 /// cost more than the slots that are added are worth.
 fn drop_rows<A: Allocator + Copy>(
@@ -62,12 +109,29 @@ fn drop_rows<A: Allocator + Copy>(
     rows: (usize, usize),
     columns: (usize, usize),
     slots: &mut Vec<u32, A>,
+    places: &mut [u32],
 )
     ensures { HaveDropped (IsInRows grid.now layer rows columns) slots.old.items slots.new.items }
 {
     if slots.len() <= slots_of(rows, columns) {
         slots.retain(|number| !lies_in(grid, layer, rows, columns, *number));
+        note_all(places, slots);
     }
+}
+
+/// Adds the slot, unless it stands at its place in the list.
+fn push_once<A: Allocator>(
+    slot: u32,
+    slots: &mut Vec<u32, A>,
+    places: &mut [u32],
+) -> Result<(), AllocError>
+    ensures { OnOk result (HaveGot (λ n. n ≡ slot) slots.old.items slots.new.items) }
+{
+    if !is_listed(slots, places, slot) {
+        note_place(places, slot, slots.len());
+        slots.push(slot)?;
+    }
+    Ok(())
 }
 
 /// Adds the slots of these columns in a row.
@@ -77,6 +141,7 @@ fn add_row<A: Allocator + Copy>(
     row: usize,
     columns: (usize, usize),
     slots: &mut Vec<u32, A>,
+    places: &mut [u32],
 ) -> Result<(), AllocError>
     requires layer { layer < length grid.now.layers }
     requires row { row < length grid.now.ys }
@@ -84,7 +149,7 @@ fn add_row<A: Allocator + Copy>(
     ensures { OnOk result (HaveGot (IsInRow grid.now layer row columns) slots.old.items slots.new.items) }
 {
     for column in columns.0..columns.1 {
-        slots.push(grid.number_at(Slot { layer, row, column }))?;
+        push_once(grid.number_at(Slot { layer, row, column }), slots, places)?;
     }
     Ok(())
 }
@@ -96,6 +161,7 @@ fn add_rows<A: Allocator + Copy>(
     rows: (usize, usize),
     columns: (usize, usize),
     slots: &mut Vec<u32, A>,
+    places: &mut [u32],
 ) -> Result<(), AllocError>
     requires layer { layer < length grid.now.layers }
     requires rows { rows.1 ≤ length grid.now.ys }
@@ -103,7 +169,7 @@ fn add_rows<A: Allocator + Copy>(
     ensures { OnOk result (HaveGot (IsInRows grid.now layer rows columns) slots.old.items slots.new.items) }
 {
     for row in rows.0..rows.1 {
-        add_row(grid, layer, row, columns, slots)?;
+        add_row(grid, layer, row, columns, slots, places)?;
     }
     Ok(())
 }
@@ -115,14 +181,16 @@ fn add_rows_once<A: Allocator + Copy>(
     rows: (usize, usize),
     columns: (usize, usize),
     slots: &mut Vec<u32, A>,
+    places: &mut Vec<u32, A>,
 ) -> Result<(), AllocError>
     requires layer { layer < length grid.now.layers }
     requires rows { rows.1 ≤ length grid.now.ys }
     requires columns { columns.1 ≤ length grid.now.xs }
     ensures { OnOk result (HaveGot (IsInRows grid.now layer rows columns) slots.old.items slots.new.items) }
 {
-    drop_rows(grid, layer, rows, columns, slots);
-    add_rows(grid, layer, rows, columns, slots)?;
+    note_places(grid.size(), slots_of(rows, columns), slots, places)?;
+    drop_rows(grid, layer, rows, columns, slots, places);
+    add_rows(grid, layer, rows, columns, slots, places)?;
     Ok(())
 }
 
@@ -172,6 +240,6 @@ pub fn add_slots_in<A: Allocator + Copy>(
     let columns = places_within(grid.xs(), rect.x1(), rect.x2());
     let rows = places_within(grid.ys(), rect.y1(), rect.y2());
     add_box(k, rows, columns, &mut found.boxes)?;
-    add_rows_once(grid, k, rows, columns, &mut found.slots)?;
+    add_rows_once(grid, k, rows, columns, &mut found.slots, &mut found.places)?;
     Ok(())
 }

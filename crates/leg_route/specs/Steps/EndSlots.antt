@@ -78,7 +78,7 @@ pub record HaveGotSlotEnds (grid : GridModel) (Open : ℕ → Type 0) (firsts : 
   pub still : (end : EndSlot) → Contains before end → Contains after end
   pub all : (n : ℕ) → Contains slots n → Open n → HasEndFor firsts after piece n
 
--- of the slots in the rectangle
+-- the list has got the slots in the rectangle on this layer as ends in the piece
 pub record HaveGotEnds (grid : GridModel) (Open : ℕ → Type 0) (firsts : List ℕ) (boxes : List SlotBox) (piece layer : ℕ) (rect : RectModel)
     (before after : List EndSlot) : Type 0 where
   pub slots : List ℕ

@@ -9,7 +9,7 @@ returns g c = record {
   slots = c.add_slots_in.new.found.slots.items;
   got = rw (c.deref.ensures.value, c.in_ok-note_places.ensures) at c.in_ok-push_ends.ensures;
   in_rect = λ n.
-      let added = rw c.new.ensures.items at (c.in_ok-add_slots_in.ensures.added n) in
+      let added = rw c.new-found.ensures.slots at (c.in_ok-add_slots_in.ensures.added n) in
       (λ has. elim (added.0 has) [ inl none ↦ absurd (Contains-nil n none) | inr one ↦ one ], λ one. added.1 (inr one));
-  within = rw c.in_ok-add_slots_in.was at (c.add_slots_in.ensures.within (rw c.new.ensures.items (All-nil (λ n. n < slot_total c.args.grid.now))));
+  within = rw c.in_ok-add_slots_in.was at (c.add_slots_in.ensures.within (rw c.new-found.ensures.slots (All-nil (λ n. n < slot_total c.args.grid.now))));
 }

@@ -12,9 +12,9 @@ loop-column-init g c = (
 pub loop-column-preserved : goal.loop-column-preserved
 loop-column-preserved g c = (
   one_more (λ column m. IsSlot c.args.grid.now m c.args.layer c.args.row column) c.args.columns.0 c.args.slots.now.items c.loop-column.column
-      c.loop-column.slots.items c.push.new.self.items (omega arith) c.loop-column.invariant.0
-      (one_slot c.args.grid.now c.number_at.result c.args.layer c.args.row c.loop-column.column c.loop-column.slots.items c.push.new.self.items
-      c.number_at.ensures.is c.in_ok-push.ensures.items),
+      c.loop-column.slots.items c.push_once.new.slots.items (omega arith) c.loop-column.invariant.0
+      (one_slot c.args.grid.now c.number_at.result c.args.layer c.args.row c.loop-column.column c.loop-column.slots.items c.push_once.new.slots.items
+      c.number_at.ensures.is c.in_ok-push_once.ensures),
   λ j from below. omega (arith, from, below),
 )
 
