@@ -442,6 +442,12 @@ class PackedTests(CallTests):
             self.assertEqual((status, out), (3, '<a b><><*>'))
         self.assertEqual(self.run_script(words=[])[:2], (3, '<>'))
 
+    def test_its_path_is_printed_on_demand(self):
+        status, out, _ = self.run_script(LEFDEF_PATH='1')
+        self.assertEqual((status, out), (0, os.path.join(self.unpacked, *self.kept(self.unpacked)) + '\n'))
+        self.assertEqual(self.run_script(LEFDEF_PROVE='1')[:2], (0, 'ran check\n'))
+        self.assertEqual(self.run_script(LEFDEF_PATH='1'), (0, os.path.join(self.top, 'crates', 'lefdef', 'out', 'lefdef') + '\n', ''))
+
     def test_a_program_that_was_built_here_comes_first(self):
         self.assertEqual(self.run_script(LEFDEF_PROVE='1')[:2], (0, 'ran check\n'))
         self.assertEqual(self.run_script(), (0, 'ran check\n', ''))
