@@ -201,6 +201,17 @@ class GateTests(Room):
             status, lines = self.run_gate()
             self.assertEqual((status, lines[-1].split(', ')[1]), (1, '1 failed'), lines)
 
+    def test_wrong_bodies_of_crates_that_are_kept_are_tried_at_once(self):
+        self.file('tests/edits/gate', '# words\nlow/some f\nlow/more f\nleast/a b\n# others\nhigh/other g::h\n# last\ntop/of i\n')
+        kept = ''.join(f"echo 'rt: {it} is kept: from a run before'\n" for it in ('least', 'low', 'high', 'top'))
+        self.script('commands/rt', f'{RT}{kept}{PASSED}')
+        status, lines = self.run_gate()
+        told = [line for line in lines if line.startswith('== tests/edits/run --gate')]
+        self.assertEqual((status, told), (0, ['== tests/edits/run --gate high least low top']), lines)
+        self.script('tests/edits/run', SUITE + 'case "$*" in *high*) exit 1 ;; esac\n')
+        status, lines = self.run_gate()
+        self.assertEqual((status, lines[-1].split(', ')[1]), (1, '1 failed'), lines)
+
     def test_the_program_that_it_proved_is_not_built_again(self):
         self.run_gate()
         called = self.started('lefdef', 'check')
