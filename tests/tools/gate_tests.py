@@ -195,11 +195,21 @@ class GateTests(Room):
         told = [line for line in lines if line.startswith('== tests/edits/run --gate')]
         self.assertEqual(told, ['== tests/edits/run --gate least low', '== tests/edits/run --gate high'])
         with open(os.path.join(self.room, 'words'), encoding='utf-8') as file:
-            self.assertEqual(file.read().splitlines()[:2], ['--gate least low --jobs 1', '--gate high'])
+            self.assertEqual(file.read().splitlines()[:2], [f'--gate least low --jobs {(len(os.sched_getaffinity(0)) + 1) // 2}', '--gate high'])
         for words in ('*low*', '*high*'):
             self.script('tests/edits/run', SUITE + f'case "$*" in {words}) exit 1 ;; esac\n')
             status, lines = self.run_gate()
             self.assertEqual((status, lines[-1].split(', ')[1]), (1, '1 failed'), lines)
+
+    def test_wrong_bodies_that_are_left_at_the_end_are_tried_beside_those_that_are_being_tried(self):
+        def wait(name):
+            return f'for i in 1 2 3 4 5 6 7 8; do [ -e "$ROOM/{name}" ] || sleep 0.5; done\n[ -e "$ROOM/{name}" ] || exit 1\n'
+        self.file('tests/edits/gate', '# words\nlow/some f\n# others\nhigh/other g::h\n')
+        self.script('tests/edits/run', f'#!/bin/sh\ncase "$*" in\n*low*)\ntouch "$ROOM/low"\n{wait("high")};;\n*high*) touch "$ROOM/high" ;;\nesac\n{PASSED}')
+        self.script('commands/rt', f"{RT}echo 'rt: low proved'\n{wait('low')}{PASSED}")
+        status, lines = self.run_gate()
+        told = [line for line in lines if line.startswith('== tests/edits/run --gate')]
+        self.assertEqual((status, told), (0, ['== tests/edits/run --gate low', '== tests/edits/run --gate high']), lines)
 
     def test_wrong_bodies_of_crates_that_are_kept_are_tried_at_once(self):
         self.file('tests/edits/gate', '# words\nlow/some f\nlow/more f\nleast/a b\n# others\nhigh/other g::h\n# last\ntop/of i\n')
