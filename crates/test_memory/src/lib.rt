@@ -1,6 +1,6 @@
-//! Public calls on a design and its metal that take memory and are lent what they work on, with each of their allocations refused in
-//! turn, and those that take none, with all refused. `test_memory_check` has those that a check is made of, `test_memory_design` those
-//! that are given a design, and `test_memory_commands` the commands.
+//! Public calls on texts, and on a design and its metal, that take memory and are lent what they work on, with each of their allocations
+//! refused in turn, and those that take none, with all refused. `test_memory_design` has those that are given a design, and
+//! `test_memory_commands` the checks and the commands.
 //!
 //! What these share is public here.
 #![tactic(auto)]

@@ -2,6 +2,7 @@
 //! answer what they answer with ample memory.
 
 mod designs;
+mod texts;
 mod without;
 
 use crate::library::library_of_cells;
@@ -9,16 +10,21 @@ use designs::DesignCall;
 use leg_lib_records::Library;
 use std::alloc::{Allocator, Global};
 use test_alloc::RefusingAlloc;
-use test_texts::{around_an_obstruction, every_form, net_at_one_place, two_at_one_place, wired};
+use test_texts::{
+    around_an_obstruction, cells, every_form, net_at_one_place, two_at_one_place, wired,
+};
+use texts::TextCall;
 
-/// What is tried under the library, on the design of a DEF.
+/// What is tried under the library, on a DEF.
 #[derive(Clone, Copy)]
 enum Trial {
-    /// It is lent.
+    /// It is read.
+    Read,
+    /// Its design is lent.
     Lend(DesignCall),
-    /// It is lent to a call that asks for no memory on it.
+    /// Its design is lent to a call that asks for no memory on it.
     LendWithout(DesignCall),
-    /// It is lent to calls that take no memory.
+    /// Its design is lent to calls that take no memory.
     Without,
 }
 
@@ -43,10 +49,33 @@ fn goes_right_under<A: Allocator + Copy>(
     def: &[u8],
 ) -> bool {
     match trial {
+        Trial::Read => texts::is_read_right(alloc, refusing, library, def),
         Trial::Lend(call) => designs::goes_right(alloc, refusing, library, call, def),
         Trial::LendWithout(call) => designs::asks_for_none(alloc, refusing, library, call, def),
         Trial::Without => without::goes_right(alloc, refusing, library, def),
     }
+}
+
+#[test]
+fn texts_without_memory(rt: HostRuntime) {
+    let refusing = &RefusingAlloc::new(rt.alloc());
+    for def in [
+        two_at_one_place(),
+        around_an_obstruction(),
+        net_at_one_place(),
+        every_form(),
+    ] {
+        assert!(rt; texts::goes_right(refusing, refusing, TextCall::Tokens, def));
+        assert!(rt; texts::goes_right(refusing, refusing, TextCall::DefUnits, def));
+        assert!(rt; goes_right(refusing, refusing, Trial::Read, def));
+    }
+}
+
+#[test]
+fn libraries_without_memory(rt: HostRuntime) {
+    let refusing = &RefusingAlloc::new(rt.alloc());
+    assert!(rt; texts::goes_right(refusing, refusing, TextCall::ReadLefs, cells()));
+    assert!(rt; texts::goes_right(refusing, refusing, TextCall::At, cells()));
 }
 
 #[test]

@@ -1,13 +1,12 @@
 //! Calls on texts.
 
-use leg_app::{TextFault, check_texts};
+use crate::turn::{has_text, is_last};
 use leg_design::{def_units, read_def};
 use leg_lex::{FaultKind, LexFault, Token, tokens};
 use leg_lib::read_lefs;
 use leg_lib_records::{Library, RawLibrary, ScaleKind};
 use std::alloc::{Allocator, Global};
 use test_alloc::{Refused, RefusingAlloc, Turn, Turns};
-use test_memory::{has_text, is_last};
 use test_texts::cells;
 
 /// A call on the text of a DEF, or on that of the LEF.
@@ -17,7 +16,6 @@ pub(super) enum TextCall {
     ReadLefs,
     At,
     DefUnits,
-    CheckTexts,
 }
 
 /// Whether these are the same words, on the same lines.
@@ -136,23 +134,6 @@ fn def_units_in_turn<A: Allocator + Copy>(
     is_right.then_some(turn)
 }
 
-fn check_texts_in_turn<A: Allocator + Copy>(
-    alloc: A,
-    refusing: &RefusingAlloc<Global>,
-    def: &[u8],
-    number: u64,
-) -> Option<Turn> {
-    let ample = check_texts(alloc, &[cells()], def).ok()?;
-    refusing.refuse(Refused::Growth(number));
-    let found = check_texts(alloc, &[cells()], def);
-    let turn = refusing.turn_ended(found.is_err());
-    let is_right = match found {
-        Ok(found) => found.as_slice() == ample.as_slice(),
-        Err(fault) => matches!(fault, TextFault::Memory),
-    };
-    is_right.then_some(turn)
-}
-
 fn turn_of<A: Allocator + Copy>(
     alloc: A,
     refusing: &RefusingAlloc<Global>,
@@ -165,7 +146,6 @@ fn turn_of<A: Allocator + Copy>(
         TextCall::ReadLefs => read_lefs_in_turn(alloc, refusing, number),
         TextCall::At => at_in_turn(alloc, refusing, number),
         TextCall::DefUnits => def_units_in_turn(alloc, refusing, def, number),
-        TextCall::CheckTexts => check_texts_in_turn(alloc, refusing, def, number),
     }
 }
 
