@@ -4,6 +4,7 @@ mod blockages;
 mod finish;
 mod input;
 mod judged;
+mod lines;
 mod metal;
 
 ghost use Rattle.std.specs.Prelude.{Some};

@@ -1,5 +1,4 @@
-//! What texts, numbers and forms of words denote, where points and rectangles lie, and how lines are written: tests of
-//! `leg_lex`, `leg_geom` and `leg_print_words` by values.
+//! What texts, numbers and forms of words denote, and where points and rectangles lie: tests of `leg_lex` and `leg_geom` by values.
 #![tactic(auto)]
 
 #[cfg(test)]

@@ -1,7 +1,6 @@
 //! What no clause states, by values from outside.
 
 mod forms;
-mod lines;
 mod numbers;
 mod plane;
 mod texts;

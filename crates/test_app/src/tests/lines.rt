@@ -1,4 +1,4 @@
-//! Texts by worked values: that memory suffices, and how lines look.
+//! Lines of words by worked values: that memory suffices, and how they look.
 
 use leg_print_words::{push_end, push_first, push_line_feed, push_number, push_word, push_words};
 use std::test::Fail;
