@@ -25,12 +25,12 @@ use Rattle.leg_legal_sites.specs.Steps.TreeOfRows.{IsLeafBeneath}
 use Rattle.leg_legal_sites.specs.Steps.FreeListSharing.{list_of_node, place_of_row, row_list, row_lists}
 use Rattle.leg_legal_sites.specs.Steps.Bounds.{AreWithinBounds, DoBoundAlike}
 use Rattle.leg_legal_sites.specs.Steps.FreeRows.{LosesMet, AreTakenBeneath}
-use Rattle.leg_legal_sites.specs.Steps.SharedLists.{own_list, AreShared, LosesShared, IsMetThroughout}
+use Rattle.leg_legal_sites.specs.Steps.SharedLists.{own_list, AreShared, HaveNoneBefore, LosesShared, IsMetThroughout}
 use Rattle.leg_legal_sites.proofs.RowBounds.{within_die}
 use Rattle.leg_legal_sites.proofs.RowTree.{leaf_alone, nodes_set, nodes_weaker}
 use Rattle.leg_legal_sites.proofs.TakenRows.{same_row, inside_still, fit_still}
 use Rattle.leg_legal_sites.proofs.RowPlaces.{some_is, key_there, place_of_key, own_row, alike_rows}
-use Rattle.leg_legal_sites.proofs.SharedLists.{IsNotBeneath, decide_beneath, same_elsewhere, same_above, row_lists_long, row_list_there}
+use Rattle.leg_legal_sites.proofs.SharedLists.{IsNotBeneath, decide_beneath, same_elsewhere, same_above, row_lists_long, row_list_there, none_from}
 
 -- a rectangle that meets two boxes along y, which lie side by side along x, shares a unit square with both or none
 pub shared_along : (rect box other : RectModel) → ShareSquare rect box → other.x1 ≡ box.x1 → other.x2 ≡ box.x2 → other.y1 <ℤ rect.y2 → rect.y1 <ℤ other.y2
@@ -111,6 +111,16 @@ module _ (design : DesignModel) (rect : RectModel) (order : List RowKey) (old : 
       | inr differ ↦ shared.alike k l first (sym (get_or-set_other old node k rest None differ) ∙ has)
     ];
   }
+
+  -- a node that had no list has none
+  pub taken_before : (highest : ℕ) → HaveNoneBefore highest old → HaveNoneBefore highest taken
+  taken_before highest none k below = elim (cases_eq k node) [
+    | inl same ↦
+        ap (λ (n : ℕ). get_or taken n None) same
+        ∙ taken_own
+        ∙ none_from rest (kept ∙ ap (λ (n : ℕ). is_some (get_or old n None)) (sym same) ∙ ap is_some (none k below))
+    | inr differ ↦ get_or-set_other old node k rest None differ ∙ none k below
+  ]
 
   module _ (rows : AreRowsOf design (record { lists = row_lists order old; order = order; nodes = nodes })) (alone : list_of_node old (node / 2) ≡ None)
       (met : IsMetThroughout design rect order old nodes node) (bounds : Bounds) (there : slice_get nodes node ≡ Some bounds)
@@ -217,6 +227,16 @@ module _ (design : DesignModel) (rect : RectModel) (order : List RowKey) (old : 
         left_within die =
             within_die key.row row site.size area design.die die (unwrap_or rest [])
             (λ n free. rows.inside key.row (own_list old node) (known_of key leaf) row site at n ((loses n).0 free).0)
+
+        -- the nodes bound what is left as they are
+        pub rows_kept : AreRowsOf design (record { lists = row_lists order taken; order = order; nodes = nodes })
+        rows_kept = record {
+          lists = taken_at_node.count ∙ rows.lists;
+          inside = inside_still design rect (row_lists order old) (row_lists order taken) taken_at_node.count taken_at_node.each rows.inside;
+          order = rows.order;
+          nodes = nodes_weaker order (DoFit design (row_lists order old)) (DoFit design (row_lists order taken)) nodes
+              (fit_still design rect (row_lists order old) (row_lists order taken) taken_at_node.count taken_at_node.each) rows.nodes;
+        }
 
         pub rows_at_node : All (IsRow design.library) design.rows → (fresh : Bounds) → DoBoundAlike bounds row site.size (unwrap_or rest []) fresh
             → AreRowsOf design (record { lists = row_lists order taken; order = order; nodes = set nodes node fresh })

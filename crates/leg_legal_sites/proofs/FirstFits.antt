@@ -1,12 +1,13 @@
 -- The first of so many consecutive free sites, sought from the left.
-use Rattle.std.proofs.Common.{◌≡◌, ℕ, ◌+◌, ◌-◌, ◌<◌, ◌≤◌, max, true, false, List, None, Some, slice_get, length, get_or, inl, inr, sym, ap, ◌∙◌, arith}
+use Rattle.std.proofs.Common.{◌≡◌, ℕ, ◌+◌, ◌-◌, ◌<◌, ◌≤◌, max, List, None, Some, slice_get, length, get_or, inl, inr, sym, ap, ◌∙◌, arith}
 use Rattle.std.specs.Prelude.{nat_le}
-use Rattle.std.specs.List.Sorted.{IsPartitionedBy, IsPartitionPoint}
+use Rattle.std.specs.List.Sorted.{IsPartitionedBy}
 use Rattle.std.proofs.lemmas.Bool.{cases_lt, cases_eq, leb-true, le-leb}
-use Rattle.std.proofs.lemmas.Option.{same_Some, slice_get_within, get_or_from_slice_get}
+use Rattle.std.proofs.lemmas.Option.{same_Some, slice_get_within}
 use Rattle.leg_legal_sites.specs.declared.stretch.Stretch.{Stretch}
 use Rattle.leg_legal_sites.specs.Steps.Stretches.{AreFreeStretches}
 use Rattle.leg_legal_sites.specs.Steps.Nearest.{FitsFrom, IsFirstFit}
+use Rattle.leg_legal_sites.specs.Steps.TakeSites.{IsFirstEndBeyond}
 use Rattle.leg_legal_sites.proofs.OneStretch.{apart_at, LieIn, one_stretch, free_in}
 
 -- the ends of stretches rise
@@ -26,15 +27,11 @@ abbrev pub IsPassed : List Stretch → ℕ → ℕ → ℕ → Type 0
 IsPassed free many least i =
     (first number : ℕ) → least ≤ first → LieIn free many first number → i ≤ number
 
-pub passed_none : (free : List Stretch) (many least i : ℕ) → 1 ≤ many
-    → IsPartitionPoint (λ s. nat_le s.end least ≡ true) (λ s. nat_le s.end least ≡ false) free i → IsPassed free many least i
-passed_none free many least i some point first number above lie =
+pub passed_none : (free : List Stretch) (many least i : ℕ) → 1 ≤ many → IsFirstEndBeyond free least i → IsPassed free many least i
+passed_none free many least i some beyond first number above lie =
     elim (cases_lt number i) [
       | inl early ↦
-          let s = lie.stretch in
-          let test = point.0 number s (omega arith) early in
-          let e = get_or_from_slice_get free number s s lie.there in
-          let upto = leb-true s.end least (rw e at test) in
+          let upto = beyond.before number lie.stretch early lie.there in
           let below = lie.below in
           absurd (omega arith)
       | inr late ↦ late

@@ -1,41 +1,65 @@
 -- The first of so many consecutive free sites, sought from the right.
-use Rattle.std.proofs.Common.{◌≡◌, ℕ, ◌+◌, ◌-◌, ◌<◌, ◌≤◌, min, true, false, List, None, Some, slice_get, get_or, inl, inr, sym, ap, ◌∙◌, arith}
-use Rattle.std.specs.Prelude.{nat_le}
-use Rattle.std.specs.List.Sorted.{IsPartitionedBy, IsPartitionPoint}
-use Rattle.std.proofs.lemmas.Bool.{cases_lt, cases_eq, leb-true, leb-false, le-leb}
-use Rattle.std.proofs.lemmas.Option.{same_Some, slice_get_within, get_or_from_slice_get}
+use Rattle.std.proofs.Common.{◌≡◌, ℕ, ◌+◌, ◌-◌, ◌<◌, ◌≤◌, min, List, None, Some, slice_get, get_or, inl, inr, sym, ap, ◌∙◌, arith}
+use Rattle.std.proofs.lemmas.Bool.{cases_lt, cases_eq}
+use Rattle.std.proofs.lemmas.Option.{same_Some, slice_get_within, slice_get-get_or}
 use Rattle.leg_legal_sites.specs.declared.stretch.Stretch.{Stretch}
 use Rattle.leg_legal_sites.specs.Steps.Stretches.{AreFreeStretches}
 use Rattle.leg_legal_sites.specs.Steps.Nearest.{FitsUpTo, IsLast}
-use Rattle.leg_legal_sites.proofs.OneStretch.{apart_at, LieIn, one_stretch, free_in}
+use Rattle.leg_legal_sites.specs.Steps.TakeSites.{IsFirstEndBeyond, IsFirstStartBeyond}
+use Rattle.leg_legal_sites.proofs.OneStretch.{apart_at, long_at, LieIn, one_stretch, free_in}
 
--- the beginnings of stretches rise
-pub begins_partitioned : (free : List Stretch) (most : ℕ) → AreFreeStretches free → IsPartitionedBy (λ s. nat_le s.from most) free
-begins_partitioned free most are i j d order within test =
-    elim (cases_eq i j) [
-      | inl same ↦ rw same test
+-- the stretch that ends beyond a site begins by it, or it and those after it begin beyond
+module _ (free : List Stretch) (are : AreFreeStretches free) (site next : ℕ) (is : IsFirstEndBeyond free site next) where
+  begun_before : (i : ℕ) (s : Stretch) → i < next → slice_get free i ≡ Some s → s.from ≤ site
+  begun_before i s early there =
+      let upto = is.before i s early there in
+      let long = long_at free are i s there in
+      omega (arith, upto, long)
+
+  pub begun_here : (s : Stretch) → slice_get free next ≡ Some s → s.from ≤ site → IsFirstStartBeyond free site (next + 1)
+  begun_here s at begins = record {
+    within = let within = slice_get_within free next s at in omega (arith, within);
+    before = λ i t below there. elim (cases_eq i next) [
+      | inl same ↦
+          let one : t ≡ s = same_Some t s (sym there ∙ ap (slice_get free) same ∙ at) in
+          let from : t.from ≡ s.from = ap (λ (s : Stretch). s.from) one in
+          omega (arith, from, begins)
+      | inr differ ↦ begun_before i t (omega (arith, below, differ)) there
+    ];
+    beyond = λ i t late there.
+        let ends = is.beyond next s (omega arith) at in
+        let apart = apart_at free are next i s t at there (omega (arith, late)) in
+        omega (arith, ends, apart);
+  }
+
+  pub begun_none : ((s : Stretch) → slice_get free next ≡ Some s → site < s.from) → IsFirstStartBeyond free site next
+  begun_none beyond = record {
+    within = is.within;
+    before = begun_before;
+    beyond = λ i t late there. elim (cases_eq i next) [
+      | inl same ↦ beyond t (ap (slice_get free) (sym same) ∙ there)
       | inr differ ↦
-          let upto = leb-true (get_or free j d).from most test in
-          let apart : (get_or free i d).end < (get_or free j d).from = are.apart i j d (omega arith) within in
-          let long : (get_or free i d).from < (get_or free i d).end = are.long i d (omega arith) in
-          le-leb (get_or free i d).from most (omega arith)
-    ]
+          let within = slice_get_within free i t there in
+          let s : Stretch = get_or free next t in
+          let at : slice_get free next ≡ Some s = slice_get-get_or free next t (omega (arith, late, within)) in
+          let ends = beyond s at in
+          let long = long_at free are next s at in
+          let apart = apart_at free are next i s t at there (omega (arith, late, differ)) in
+          omega (arith, ends, long, apart)
+    ];
+  }
 
 -- what fits up to the most lies in a stretch before this number
 abbrev pub IsPassedDown : List Stretch → ℕ → ℕ → ℕ → Type 0
 IsPassedDown free many most i =
     (first number : ℕ) → first ≤ most → LieIn free many first number → number < i
 
-pub passed_down_none : (free : List Stretch) (many most i : ℕ) → IsPartitionPoint (λ s. nat_le s.from most ≡ true) (λ s. nat_le s.from most ≡ false) free i
-    → IsPassedDown free many most i
-passed_down_none free many most i point first number upto lie =
+pub passed_down_none : (free : List Stretch) (many most i : ℕ) → IsFirstStartBeyond free most i → IsPassedDown free many most i
+passed_down_none free many most i begun first number upto lie =
     elim (cases_lt number i) [
       | inl early ↦ early
       | inr late ↦
-          let s = lie.stretch in
-          let test = point.1 number s late (slice_get_within free number s lie.there) in
-          let e = get_or_from_slice_get free number s s lie.there in
-          let beyond = leb-false s.from most (rw e at test) in
+          let beyond = begun.beyond number lie.stretch late lie.there in
           let above = lie.above in
           absurd (omega arith)
     ]

@@ -1,6 +1,6 @@
 -- A list that moves between a node and those below it.
-use Rattle.std.proofs.Common.{◌≡◌, ◌≢◌, ◌⊎◌, ℕ, zero, suc, ◌+◌, ◌*◌, ◌/◌, ◌<◌, ◌≤◌, List, length, get_or, set, Option, None, Some, slice_get, inl, inr, refl, sym, ap, ◌∙◌, arith, length-set, get_or-set_other}
-use Rattle.std.proofs.lemmas.Bool.{cases_eq}
+use Rattle.std.proofs.Common.{◌≡◌, ◌≢◌, ◌⊎◌, ℕ, zero, suc, ◌+◌, ◌*◌, ◌/◌, ◌<◌, ◌≤◌, max, List, length, get_or, set, Option, None, Some, slice_get, inl, inr, refl, sym, ap, ◌∙◌, arith, length-set, get_or-set_other}
+use Rattle.std.proofs.lemmas.Bool.{cases_eq, cases_lt}
 use Rattle.std.proofs.lemmas.Grind.{get_or-set_at}
 use Rattle.std.proofs.lemmas.Int.{ints, clamps}
 use Rattle.std.proofs.lemmas.Option.{none-some}
@@ -15,9 +15,9 @@ use Rattle.leg_legal_sites.specs.Steps.FreeLists.{DoFit, AreRowsOf}
 use Rattle.leg_legal_sites.specs.Steps.TreeOfRows.{IsLevelsBeneath, IsLeafBeneath}
 use Rattle.leg_legal_sites.specs.Steps.FreeListSharing.{list_within, list_of_node, row_lists}
 use Rattle.leg_legal_sites.specs.Steps.Bounds.{AreOfBoth}
-use Rattle.leg_legal_sites.specs.Steps.SharedLists.{HaveAlikeLists, AreShared, IsShareable, IsSharedFrom}
+use Rattle.leg_legal_sites.specs.Steps.SharedLists.{HaveAlikeLists, AreShared, HaveNoneBefore, IsShareable, IsSharedFrom}
 use Rattle.leg_legal_sites.proofs.RowTree.{beneath_either, beneath_left, beneath_right, nodes_set}
-use Rattle.leg_legal_sites.proofs.SharedLists.{half_of_left, half_of_right, half_below, own_is, from_above, IsNotBeneath, decide_beneath, same_elsewhere, same_above, same_rows}
+use Rattle.leg_legal_sites.proofs.SharedLists.{half_of_left, half_of_right, half_below, at_none, own_is, from_above, IsNotBeneath, decide_beneath, same_elsewhere, same_above, same_rows}
 
 module _ (node : ℕ) (some : 1 ≤ node) (list : List Stretch) (lists : List (Option (List Stretch))) (alone : list_of_node lists (node / 2) ≡ None) where
   -- a node whose list those beneath it have
@@ -127,6 +127,20 @@ module _ (order : List RowKey) (node : ℕ) (some : 1 ≤ node) (inner : node < 
   pub handed_none : list_of_node handed node ≡ None
   handed_none = own_is handed (node / 2) node some refl handed_alone ∙ handed_own
 
+  -- it had none before the node, and has none there now
+  pub handed_before : (highest : ℕ) → HaveNoneBefore highest old → HaveNoneBefore highest handed
+  handed_before highest none k below =
+      elim (cases_lt node highest) [
+        | inl before ↦ absurd (none-some list (sym (none node before) ∙ had))
+        | inr from ↦ elim (cases_eq k node) [
+          | inl same ↦ absurd (omega (arith, same, below, from))
+          | inr differ ↦
+              three_others old (2 * node + 1) node (2 * node) (Some list) None (Some list) k (λ same. omega (arith, same, below, from)) differ
+              (λ same. omega (arith, same, below, from, some))
+              ∙ none k below
+        ]
+      ]
+
   handed_left : get_or handed (2 * node) None ≡ Some list
   handed_left = third_is old (2 * node + 1) node (2 * node) (Some list) None (Some list) (omega (arith, room))
 
@@ -214,6 +228,14 @@ none_within (suc most) lists (suc n) none =
 
 pub none_at : (lists : List (Option (List Stretch))) (node : ℕ) → ((k : ℕ) → k ≤ node → get_or lists k None ≡ None) → list_of_node lists node ≡ None
 none_at lists node none = none_within node lists node none
+
+-- before the first node that has a list none has
+pub none_before : (lists : List (Option (List Stretch))) (highest node : ℕ) → HaveNoneBefore highest lists → node < max highest 1
+    → list_of_node lists node ≡ None
+none_before lists highest node none before = elim (cases_eq node 0) [
+  | inl first ↦ at_none lists node first
+  | inr some ↦ none_at lists node (λ k upto. none k (omega (arith, before, upto, some)))
+]
 
 -- Both nodes below one have the same list, which is its own now.
 module _ (order : List RowKey) (node : ℕ) (some : 1 ≤ node) (inner : node < length order) (first old : List (Option (List Stretch)))

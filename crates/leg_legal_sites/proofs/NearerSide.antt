@@ -1,5 +1,5 @@
 -- The nearest is the last one up to the lowest place of a valley, or the first one from there on.
-use Rattle.std.proofs.Common.{ℕ, ◌<◌, ◌≤◌, inl, inr, arith}
+use Rattle.std.proofs.Common.{◌≡◌, ℕ, ◌<◌, ◌≤◌, inl, inr, arith}
 use Rattle.std.proofs.lemmas.Bool.{cases_lt, cases_eq}
 use Rattle.leg_legal_sites.specs.Steps.Nearest.{IsValley, IsLeastOf}
 
@@ -61,6 +61,25 @@ module _ (away : ℕ → ℕ) (middle : ℕ) (valley : IsValley away middle) (P 
     near = λ j has.
         elim (cases_lt middle j) [
           | inl beyond ↦ absurd (never j has (omega arith))
+          | inr upto ↦ falls_upto j left (l.last j has upto) l.upto
+        ];
+    first = λ j has near.
+        elim (cases_lt j left) [
+          | inl before ↦
+              let upto = l.upto in
+              let fall = valley.falls j left before l.upto in
+              absurd (omega arith)
+          | inr after ↦ after
+        ];
+  }
+
+  -- none is nearer than the lowest place itself
+  pub lowest_nearest : (left : ℕ) → IsLeft middle P left → left ≡ middle → IsLeastOf away P left
+  lowest_nearest left l same = record {
+    holds = l.holds;
+    near = λ j has.
+        elim (cases_lt middle j) [
+          | inl beyond ↦ valley.rises left j (omega arith) (omega arith)
           | inr upto ↦ falls_upto j left (l.last j has upto) l.upto
         ];
     first = λ j has near.

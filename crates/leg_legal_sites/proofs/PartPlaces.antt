@@ -1,7 +1,8 @@
 -- Where in the parts of a row sites lie, and groups of parts.
 use Rattle.std.proofs.Common.{◌≡◌, ℕ, ◌+◌, ◌-◌, ◌*◌, ◌<◌, ◌≤◌, ◌++◌, [], ◌∷◌, List, length, set, Some, slice_get, inl, inr, sym, ap, ◌∙◌, arith, length-set, length-append}
 use Rattle.std.proofs.lemmas.Bool.{cases_lt, cases_eq}
-use Rattle.std.proofs.lemmas.Option.{same_Some, slice_get_within}
+use Rattle.std.proofs.lemmas.List.{append-nil}
+use Rattle.std.proofs.lemmas.Option.{same_Some, none-some, slice_get_within}
 use Rattle.leg_lemmas.proofs.Places.{last_or_before}
 use Rattle.leg_legal_sites.specs.declared.stretch.Stretch.{Stretch}
 use Rattle.leg_legal_sites.specs.declared.ends.Ends.{Ends}
@@ -10,6 +11,12 @@ use Rattle.leg_legal_sites.specs.Steps.Stretches.{IsFreeSite, AreFreeSites}
 use Rattle.leg_legal_sites.specs.Steps.Parts.{all_of, AreInRow, AreNoMoreThan, IsPartSpan, AreAllFewer, DoEndBy, DoBeginBeyond, LieBefore, LieBeyond, AreNoLonger, AreGroups, IsShort, HasFirst, HasLast, AreNoneFree, NoneFitsBefore, NoneFitsFrom}
 use Rattle.leg_legal_sites.proofs.ListPlaces.{slice_get-set_same, slice_get-set_other}
 use Rattle.leg_legal_sites.proofs.Parts.{in_part, from_part, one_part}
+
+-- an only part has all stretches
+pub all_of_one : (parts : List (List Stretch)) (p : List Stretch) → length parts ≡ 1 → slice_get parts 0 ≡ Some p → all_of parts ≡ p
+all_of_one [] p one at = absurd (none-some p at)
+all_of_one (q ∷ []) p one at = append-nil q ∙ same_Some q p at
+all_of_one (q ∷ r ∷ ps) p one at = absurd (omega (arith, one))
 
 -- a part of a list that is read twice
 same_part : (parts : List (List Stretch)) (i n : ℕ) (p q : List Stretch) → slice_get parts i ≡ Some p → slice_get parts n ≡ Some q → n ≡ i → q ≡ p

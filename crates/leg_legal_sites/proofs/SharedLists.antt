@@ -236,9 +236,9 @@ owner_stays lists node owner above some none so_far = let before = so_far.before
       ∙ so_far.is;
 }
 
-pub owner_found : (lists : List (Option (List Stretch))) (node owner above : ℕ) → above ≡ 0 → IsOwnerSoFar lists node owner above
+pub owner_found : (lists : List (Option (List Stretch))) (node owner above : ℕ) → list_of_node lists above ≡ None → IsOwnerSoFar lists node owner above
     → get_or lists owner None ≡ list_of_node lists node
-owner_found lists node owner above none so_far = ap (λ o. option_or o (get_or lists owner None)) (sym (at_none lists above none)) ∙ so_far.is
+owner_found lists node owner above none so_far = ap (λ o. option_or o (get_or lists owner None)) (sym none) ∙ so_far.is
 
 -- where a node has no list of those above it, another one has none
 pub record IsAloneUpTo (lists : List (Option (List Stretch))) (node above : ℕ) : Type 0 where
@@ -260,5 +260,11 @@ alone_higher lists node above some none so_far = let before = so_far.before in r
   alone = λ higher. so_far.alone (at_step lists above some ∙ or_of_nones (list_of_node lists (above / 2)) (get_or lists above None) none higher);
 }
 
-pub alone_found : (lists : List (Option (List Stretch))) (node above : ℕ) → above ≡ 0 → IsAloneUpTo lists node above → list_of_node lists (node / 2) ≡ None
-alone_found lists node above none so_far = so_far.alone (at_none lists above none)
+pub alone_found : (lists : List (Option (List Stretch))) (node above : ℕ) → list_of_node lists above ≡ None → IsAloneUpTo lists node above
+    → list_of_node lists (node / 2) ≡ None
+alone_found lists node above none so_far = so_far.alone none
+
+-- a list that isn't there
+pub none_from : (list : Option (List Stretch)) → is_some list ≡ false → list ≡ None
+none_from None is = refl
+none_from (Some x) is = absurd (false≢true (sym is))

@@ -15,7 +15,7 @@ use crate::row_parts::RowParts;
 use crate::row_search::best_beneath;
 use crate::row_tree::nodes_of;
 use crate::rows_inside::rows_inside;
-use crate::shared_lists::share_upward;
+use crate::shared_lists::{highest_from, share_upward};
 use leg_design_records::Design;
 use leg_geom::Rect;
 use leg_rules::Candidate;
@@ -30,18 +30,20 @@ pub struct FreeRows<A: Allocator> {
     lists: Vec<Option<RowParts<A>>, A>,
     order: Vec<RowKey, A>,
     nodes: Vec<Bounds, A>,
+    /// No node before this one has a list.
+    highest: usize,
 }
 
 impl<A: Allocator> Model for FreeRows<A> {
     ghost use Rattle.leg_legal_sites.specs.Steps.FreeLists.{RowLists};
     ghost use Rattle.leg_legal_sites.specs.Steps.FreeListSharing.{row_lists};
-    ghost use Rattle.leg_legal_sites.specs.Steps.SharedLists.{AreShared};
+    ghost use Rattle.leg_legal_sites.specs.Steps.SharedLists.{AreListsFrom};
 
     ghost Value = { RowLists };
 
     ghost view = { λ f. record { lists = row_lists f.order.items f.lists.items; order = f.order.items; nodes = f.nodes.items } };
 
-    ghost invariant = { λ f. AreShared f.order.items f.lists.items };
+    ghost invariant = { λ f. AreListsFrom f.highest f.order.items f.lists.items };
 }
 
 impl<A: Allocator + Copy> FreeRows<A> {
@@ -57,6 +59,7 @@ impl<A: Allocator + Copy> FreeRows<A> {
             lists,
             order,
             nodes,
+            highest: 0,
         })
     }
 
@@ -74,7 +77,7 @@ impl<A: Allocator + Copy> FreeRows<A> {
         }
         let lists = self.lists.as_slice();
         let nodes = self.nodes.as_slice();
-        let near = best_nearby(design, lists, order, nodes, wanted);
+        let near = best_nearby(design, lists, order, nodes, self.highest, wanted);
         if near.is_best {
             return near.best;
         }
@@ -96,10 +99,12 @@ impl<A: Allocator + Copy> FreeRows<A> {
         if order.is_empty() {
             return Ok(());
         }
+        self.highest = highest_from(self.lists.as_slice(), order, self.highest);
         take_from_rows(
             self.lists.as_mut_slice(),
             self.nodes.as_mut_slice(),
             order,
+            self.highest,
             design,
             rect,
         )

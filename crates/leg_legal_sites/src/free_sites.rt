@@ -6,7 +6,7 @@ ghost use Rattle.leg_legal_sites.specs.Steps.Parts.{AreNoMoreThan, LosesSites, H
 
 use crate::ends::Ends;
 use crate::stretch::Stretch;
-use crate::take_sites::take_sites;
+use crate::take_sites::{first_end_beyond, take_sites};
 use std::alloc::{AllocError, Allocator};
 use std::marker::Model;
 
@@ -60,8 +60,9 @@ impl<A: Allocator> FreeSites<A> {
         ensures ok { OnOk result (IsWithout self.old from end self.new) }
         ensures err { OnErr result (self.new ≡ self.old) }
     {
-        let is_kept = are_in_shorter(self.stretches.as_slice(), self.longest, from, end);
-        take_sites(&mut self.stretches, from, end)?;
+        let first = first_end_beyond(self.stretches.as_slice(), from);
+        let is_kept = are_in_shorter(self.stretches.as_slice(), first, self.longest, from, end);
+        take_sites(&mut self.stretches, first, from, end)?;
         if is_kept {
             return Ok(());
         }
@@ -160,28 +161,14 @@ impl<A: Allocator + Copy> FreeSites<A> {
     }
 }
 
-/// Whether the sites from the one of the first number up to the one of the second lie in one stretch, which is shorter than this.
-fn are_in_shorter(stretches: &[Stretch], longest: u64, from: u64, end: u64) -> bool
-    requires { AreFreeStretches stretches.now }
-{
-    let first = place_of(stretches, from);
-    if first >= stretches.len() {
+/// Whether the sites from the one of the first number up to the one of the second lie in the stretch at this place, and it is
+/// shorter than this.
+fn are_in_shorter(stretches: &[Stretch], place: usize, longest: u64, from: u64, end: u64) -> bool {
+    if place >= stretches.len() {
         return false;
     }
-    let stretch = stretches[first];
+    let stretch = stretches[place];
     stretch.from <= from && end <= stretch.end && stretch.end.saturating_sub(stretch.from) < longest
-}
-
-/// The number of the first stretch that ends beyond this site; that of the last one, which is looked at first, if that begins by it.
-fn place_of(stretches: &[Stretch], from: u64) -> usize
-    requires { AreFreeStretches stretches.now }
-{
-    if let Some(last) = stretches.last() {
-        if last.from <= from {
-            return stretches.len() - 1;
-        }
-    }
-    stretches.partition_point(|stretch| stretch.end <= from)
 }
 
 /// A number of sites that no stretch has more of.

@@ -16,7 +16,7 @@
 //! and one node. Each node has the least and greatest x and y of the free sites of the rows beneath it, the least sum of
 //! both, how many free sites follow one another at most, and the lowest number of a row.
 //!
-//! `best_position` first looks at the rows that lie nearest to the start along y, outward, at most eight of them, and none
+//! `best_position` first looks at the rows that lie nearest to the start along y, outward, at most forty-eight, and none
 //! where more than four stand at one height: in most blocks the next row on each side is soon farther away than the best
 //! position found. Otherwise it goes down the tree, into the nearer one of two nodes first, and passes a node beneath which
 //! nothing can be better than the best position found. So full rows and those outside the die cost nothing.
@@ -25,7 +25,9 @@
 //! shares its list with no other. Otherwise it goes down from the first node: it passes each node that the box lies beside,
 //! takes the box at once from a list whose rows it all meets along y, hands the list of other nodes down to both nodes
 //! below, one of which gets a copy, and makes the nodes anew on its way back. Nodes beneath one with a list keep the bounds
-//! that they had, so a search takes there the narrower ones of a node and of those above it.
+//! that they had, so a search takes there the narrower ones of a node and of those above it. Nodes stay as they are where a row's
+//! first and last free site and its longest stretch do. Lists only go down, so none is looked for before the first node that has
+//! one: once no two rows have a list together, at none above the leaves.
 //!
 //! What a list means in the plane is `IsFreeList`: a site is in it if and only if the row has the site and the site's box is
 //! clear, that is in the die and sharing no unit square with a box that is in the way.

@@ -6,6 +6,7 @@ ghost use Rattle.leg_legal_sites.specs.Steps.BestPosition.{AreReady, IsBestOf, I
 ghost use Rattle.leg_legal_sites.specs.Steps.FreeLists.{AreRowsOf, IsOfItsSite};
 ghost use Rattle.leg_legal_sites.specs.Steps.RowOrder.{IsBefore};
 ghost use Rattle.leg_legal_sites.specs.Steps.FreeListSharing.{row_lists};
+ghost use Rattle.leg_legal_sites.specs.Steps.SharedLists.{HaveNoneBefore};
 ghost use Rattle.leg_legal_sites.specs.Steps.RowPositions.{IsSplitAt, IsNearerThan, IsRowBeyond, IsNextPlace};
 
 use crate::bounds::Bounds;
@@ -18,7 +19,7 @@ use leg_rules::Candidate;
 use std::alloc::Allocator;
 
 /// How many rows are looked at one by one at most.
-const NEAR_LIMIT: usize = 8;
+const NEAR_LIMIT: usize = 48;
 
 /// How many rows may stand at one height where they are looked at one by one.
 const ROWS_AT_ONE_HEIGHT: usize = 4;
@@ -30,14 +31,16 @@ pub(crate) struct Nearby {
     pub is_best: bool,
 }
 
-/// The best free position in the rows that lie nearest to the start along y.
+/// The best free position in the rows that lie nearest to the start along y. No node before `highest` has a list.
 pub(crate) fn best_nearby<A: Allocator + Copy>(
     design: &Design<'_, A>,
     lists: &[Option<RowParts<A>>],
     order: &[RowKey],
     nodes: &[Bounds],
+    highest: usize,
     wanted: &Wanted,
 ) -> Nearby
+    requires none { HaveNoneBefore highest lists.now }
     requires rows { AreRowsOf design.now (record { lists = row_lists order.now lists.now; order = order.now; nodes = nodes.now }) }
     requires ready { AreReady design.now.rows (row_lists order.now lists.now) wanted.now }
     requires sized { IsOfItsSite design.now wanted.now }
@@ -55,7 +58,7 @@ pub(crate) fn best_nearby<A: Allocator + Copy>(
                 is_best: true,
             };
         };
-        best = best_at(design, lists, order, nodes, wanted, place, best);
+        best = best_at(design, lists, order, nodes, highest, wanted, place, best);
         if place < low {
             low = place;
         } else {

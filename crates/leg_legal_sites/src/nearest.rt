@@ -21,6 +21,7 @@ pub(crate) struct Pitch {
 }
 
 /// The first of this many consecutive free sites that is nearest to the start, the lower of two that are as near.
+#[inline(always)]
 pub(crate) fn nearest<A: Allocator>(sites: &RowParts<A>, many: u64, pitch: &Pitch) -> Option<u64>
     requires some { 1 ≤ many }
     requires pitch { IsPitch pitch.now }
@@ -28,11 +29,13 @@ pub(crate) fn nearest<A: Allocator>(sites: &RowParts<A>, many: u64, pitch: &Pitc
     ensures { IsNearest (x_away pitch.now) (AreFreeSites sites.now many) result }
 {
     let middle = lowest(pitch);
-    let left = sites.last_fit(many, middle);
-    let right = sites.first_fit(many, middle);
+    let (left, right) = sites.fits_beside(many, middle);
     let Some(left) = left else {
         return right;
     };
+    if left == middle {
+        return Some(left);
+    }
     let Some(right) = right else {
         return Some(left);
     };

@@ -11,7 +11,7 @@ ghost use Rattle.leg_legal_sites.specs.Steps.RowOrder.{IsRowOrder};
 ghost use Rattle.leg_legal_sites.specs.Steps.FreeListSharing.{list_of_node, row_lists};
 ghost use Rattle.leg_legal_sites.specs.Steps.FreeRows.{AreTakenBeneath};
 ghost use Rattle.leg_legal_sites.specs.Steps.OnlyRow.{DoRise, AreAllSoHigh, IsOnlyMet};
-ghost use Rattle.leg_legal_sites.specs.Steps.SharedLists.{AreShared};
+ghost use Rattle.leg_legal_sites.specs.Steps.SharedLists.{AreShared, HaveNoneBefore};
 
 use crate::bounds::Bounds;
 use crate::row_keys::RowKey;
@@ -22,20 +22,23 @@ use leg_design_records::Design;
 use leg_geom::Rect;
 use std::alloc::{AllocError, Allocator};
 
-/// Takes the sites that share a unit square with the rectangle away from those of each row.
+/// Takes the sites that share a unit square with the rectangle away from those of each row. No node before `highest` has a list.
 pub(crate) fn take_from_rows<A: Allocator + Copy>(
     lists: &mut [Option<RowParts<A>>],
     nodes: &mut [Bounds],
     order: &[RowKey],
+    highest: usize,
     design: &Design<'_, A>,
     rect: &Rect,
 ) -> Result<(), AllocError>
+    requires none { HaveNoneBefore highest lists.old }
     requires rows { AreRowsOf design.now (record { lists = row_lists order.now lists.old; order = order.now; nodes = nodes.old }) }
     requires shared { AreShared order.now lists.old }
     requires some { 1 ≤ length order.now }
     ensures shared { AreShared order.now lists.new }
     ensures rows { OnOk result (AreRowsOf design.now (record { lists = row_lists order.now lists.new; order = order.now; nodes = nodes.new })) }
     ensures taken { OnOk result (AreTakenBeneath design.now rect.now order.now 1 (row_lists order.now lists.old) (row_lists order.now lists.new)) }
+    ensures none { HaveNoneBefore highest lists.new }
 {
     let Some(height) = height_of_all(design, order) else {
         return take_beneath(lists, nodes, order, design, rect, 1);
@@ -43,10 +46,13 @@ pub(crate) fn take_from_rows<A: Allocator + Copy>(
     let Some(place) = only_met(order, height, rect) else {
         return take_beneath(lists, nodes, order, design, rect, 1);
     };
-    if !is_alone(lists, order.len() + place) {
+    if !is_alone(lists, highest, order.len() + place) {
         return take_beneath(lists, nodes, order, design, rect, 1);
     }
-    take_at(lists, nodes, order, design, rect, order.len() + place)?;
+    let is_bounded_otherwise = take_at(lists, nodes, order, design, rect, order.len() + place)?;
+    if !is_bounded_otherwise {
+        return Ok(());
+    }
     join_above(nodes, order, (order.len() + place) / 2);
     Ok(())
 }

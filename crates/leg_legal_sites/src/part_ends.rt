@@ -13,6 +13,9 @@ pub(crate) fn ends_of<A: Allocator>(parts: &[FreeSites<A>], groups: &[u64]) -> O
     requires { AreParts parts.now groups.now }
     ensures { HasSpan (all_of parts.now) result }
 {
+    if parts.len() == 1 {
+        return parts[0].ends();
+    }
     let first = first_ends(parts)?;
     let last = last_ends(parts)?;
     Some(Ends {

@@ -10,7 +10,7 @@ use crate::free_sites::FreeSites;
 use crate::part_ends::ends_of;
 use crate::part_groups::groups_of;
 use crate::part_places::{place_beyond, place_from};
-use crate::part_search::{first_in_parts, last_in_parts};
+use crate::part_search::{first_in_parts, fits_beside, last_in_parts};
 use crate::take_parts::{regroup, take_from_parts};
 use std::alloc::{AllocError, Allocator};
 use std::marker::Model;
@@ -57,20 +57,19 @@ impl<A: Allocator> RowParts<A> {
         ends_of(self.parts.as_slice(), self.groups.as_slice())
     }
 
-    /// The first of this many consecutive free sites, the least that isn't below this one.
-    pub(crate) fn first_fit(&self, many: u64, least: u64) -> Option<u64>
+    /// The first of this many consecutive free sites, the greatest that isn't above this one, and the least that isn't below it.
+    pub(crate) fn fits_beside(&self, many: u64, site: u64) -> (Option<u64>, Option<u64>)
         requires { 1 ≤ many }
-        ensures { IsFirstFit (FitsFrom self.now many least) result }
+        ensures left { IsLast (FitsUpTo self.now many site) result.0 }
+        ensures right { IsFirstFit (FitsFrom self.now many site) result.1 }
     {
-        first_in_parts(self.parts.as_slice(), self.groups.as_slice(), many, least)
-    }
-
-    /// The first of this many consecutive free sites, the greatest that isn't above this one.
-    pub(crate) fn last_fit(&self, many: u64, most: u64) -> Option<u64>
-        requires { 1 ≤ many }
-        ensures { IsLast (FitsUpTo self.now many most) result }
-    {
-        last_in_parts(self.parts.as_slice(), self.groups.as_slice(), many, most)
+        if self.parts.len() == 1 {
+            return fits_beside(&self.parts[0], many, site);
+        }
+        (
+            last_in_parts(self.parts.as_slice(), self.groups.as_slice(), many, site),
+            first_in_parts(self.parts.as_slice(), self.groups.as_slice(), many, site),
+        )
     }
 }
 

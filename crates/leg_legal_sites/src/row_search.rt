@@ -10,6 +10,7 @@ ghost use Rattle.leg_legal_sites.specs.Steps.BestPosition.{AreReady, IsBestOf};
 ghost use Rattle.leg_legal_sites.specs.Steps.FreeLists.{AreRowsOf, IsOfItsSite};
 ghost use Rattle.leg_legal_sites.specs.Steps.RowOrder.{IsRowOrder};
 ghost use Rattle.leg_legal_sites.specs.Steps.FreeListSharing.{list_of_node, row_lists};
+ghost use Rattle.leg_legal_sites.specs.Steps.SharedLists.{HaveNoneBefore};
 ghost use Rattle.leg_legal_sites.specs.Steps.Nearest.{BeginWithin};
 ghost use Rattle.leg_legal_sites.specs.Steps.RowPositions.{IsCandidateOf, IsBestOrBeneath};
 ghost use Rattle.leg_legal_sites.specs.Steps.Branches.{IsBranch};
@@ -57,12 +58,13 @@ pub(crate) fn best_beneath<A: Allocator + Copy>(
     best_beneath(design, lists, order, nodes, wanted, &far, best)
 }
 
-/// The better of a position and of the best free one in the row at this place of the order.
+/// The better of a position and of the best free one in the row at this place of the order. No node before `highest` has a list.
 pub(crate) fn best_at<A: Allocator + Copy>(
     design: &Design<'_, A>,
     lists: &[Option<RowParts<A>>],
     order: &[RowKey],
     nodes: &[Bounds],
+    highest: usize,
     wanted: &Wanted,
     place: usize,
     best: Option<Candidate>,
@@ -71,6 +73,7 @@ pub(crate) fn best_at<A: Allocator + Copy>(
     requires ready { AreReady design.now.rows (row_lists order.now lists.now) wanted.now }
     requires sized { IsOfItsSite design.now wanted.now }
     requires count { length lists.now ≡ 2 * length order.now }
+    requires none { HaveNoneBefore highest lists.now }
     requires there { place < length order.now }
     ensures { IsBestOf (IsBestOrBeneath design.now.rows order.now (row_lists order.now lists.now) wanted.now (length order.now + place) best) result }
 {
@@ -79,11 +82,12 @@ pub(crate) fn best_at<A: Allocator + Copy>(
     if are_no_better(&nodes[leaf], wanted, &best) {
         return best;
     }
-    let owner = owner_of(lists, leaf);
+    let owner = owner_of(lists, highest, leaf);
     best_at_leaf(design, lists, order, wanted, place, owner, best)
 }
 
 /// The same, where the row has the list of this node.
+#[inline(always)]
 fn best_at_leaf<A: Allocator + Copy>(
     design: &Design<'_, A>,
     lists: &[Option<RowParts<A>>],
@@ -107,6 +111,7 @@ fn best_at_leaf<A: Allocator + Copy>(
 }
 
 /// The best free position in the row of this number, which has this list of free sites, or none.
+#[inline(always)]
 fn best_of_row<A: Allocator + Copy>(
     row: &Row<'_>,
     list: &Option<RowParts<A>>,

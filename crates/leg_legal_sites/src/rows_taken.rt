@@ -1,6 +1,6 @@
 //! How the sites that a rectangle meets are taken from rows.
 
-ghost use Rattle.std.specs.Prelude.{◌≡◌, ◌*◌, ◌/◌, ◌≤◌, ◌<◌, [], length, None, is_some, unwrap_or, IsTrue, OnOk};
+ghost use Rattle.std.specs.Prelude.{◌≡◌, ℕ, ◌*◌, ◌/◌, ◌≤◌, ◌<◌, [], length, None, is_some, unwrap_or, IsTrue, OnOk};
 ghost use Rattle.leg_legal_sites.specs.Steps.FreeLists.{AreRowsOf};
 ghost use Rattle.leg_lib_records.specs.Measure.{HasArea};
 ghost use Rattle.leg_legal_sites.specs.declared.row_keys.RowKey.{RowKey};
@@ -9,9 +9,11 @@ ghost use Rattle.leg_legal_sites.specs.Steps.TreeOfRows.{IsLeafBeneath};
 ghost use Rattle.leg_legal_sites.specs.Steps.FreeListSharing.{list_of_node, row_lists};
 ghost use Rattle.leg_legal_sites.specs.Steps.Bounds.{AreWithinBounds, DoBoundAlike, IsBeside};
 ghost use Rattle.leg_legal_sites.specs.Steps.FreeRows.{AreTakenBeneath};
-ghost use Rattle.leg_legal_sites.specs.Steps.SharedLists.{AreShared, IsMetThroughout, LosesShared};
+ghost use Rattle.leg_legal_sites.specs.Steps.Parts.{HasSpan};
+ghost use Rattle.leg_legal_sites.specs.Steps.SharedLists.{AreShared, HaveNoneBefore, IsMetThroughout, LosesShared};
 
 use crate::bounds::Bounds;
+use crate::ends::Ends;
 use crate::row_keys::RowKey;
 use crate::row_parts::RowParts;
 use crate::row_sites::sites_met;
@@ -40,12 +42,14 @@ pub(crate) fn take_beneath<A: Allocator + Copy>(
     ensures rows { OnOk result (AreRowsOf design.now (record { lists = row_lists order.now lists.new; order = order.now; nodes = nodes.new })) }
     ensures taken { OnOk result (AreTakenBeneath design.now rect.now order.now node (row_lists order.now lists.old) (row_lists order.now lists.new)) }
     ensures alone { OnOk result (list_of_node lists.new (node / 2) ≡ None) }
+    ensures before { (highest : ℕ) → HaveNoneBefore highest lists.old → HaveNoneBefore highest lists.new }
 {
     if is_beside(&nodes[node], rect) {
         return Ok(());
     }
     if is_met_throughout(lists, nodes, order, design, rect, node) {
-        return take_at(lists, nodes, order, design, rect, node);
+        take_at(lists, nodes, order, design, rect, node)?;
+        return Ok(());
     }
     hand_down(lists, nodes, order, node)?;
     take_beneath(lists, nodes, order, design, rect, 2 * node)?;
@@ -105,7 +109,9 @@ fn row_beneath<A: Allocator + Copy>(design: &Design<'_, A>, order: &[RowKey], no
     key_beneath(order, node).row
 }
 
-/// Takes the sites away from the list of a node, and bounds what is left of it.
+/// Takes the sites away from the list of a node, and bounds what is left of it. Returns whether that may be bounded otherwise than
+/// before.
+#[inline(always)]
 pub(crate) fn take_at<A: Allocator + Copy>(
     lists: &mut [Option<RowParts<A>>],
     nodes: &mut [Bounds],
@@ -113,7 +119,7 @@ pub(crate) fn take_at<A: Allocator + Copy>(
     design: &Design<'_, A>,
     rect: &Rect,
     node: usize,
-) -> Result<(), AllocError>
+) -> Result<bool, AllocError>
     requires rows { AreRowsOf design.now (record { lists = row_lists order.now lists.old; order = order.now; nodes = nodes.old }) }
     requires shared { AreShared order.now lists.old }
     requires first { 1 ≤ node }
@@ -125,16 +131,32 @@ pub(crate) fn take_at<A: Allocator + Copy>(
     ensures rows { OnOk result (AreRowsOf design.now (record { lists = row_lists order.now lists.new; order = order.now; nodes = nodes.new })) }
     ensures taken { OnOk result (AreTakenBeneath design.now rect.now order.now node (row_lists order.now lists.old) (row_lists order.now lists.new)) }
     ensures alone { OnOk result (list_of_node lists.new (node / 2) ≡ None) }
+    ensures before { (highest : ℕ) → HaveNoneBefore highest lists.old → HaveNoneBefore highest lists.new }
 {
     let row = &design.rows()[row_beneath(design, order, node)];
     let size = &design.library().sites()[row.site].size;
     let _height = size.height();
+    let ends = ends_of_list(&lists[node]);
     take_from_list(&mut lists[node], row, size, rect)?;
+    if ends == ends_of_list(&lists[node]) {
+        return Ok(false);
+    }
     nodes[node] = bounds_of_list(&lists[node], row, size, &nodes[node]);
-    Ok(())
+    Ok(true)
+}
+
+/// The ends of the free sites of a list, if any is free.
+fn ends_of_list<A: Allocator + Copy>(list: &Option<RowParts<A>>) -> Option<Ends>
+    ensures { HasSpan (unwrap_or list.now []) result }
+{
+    match list {
+        Some(sites) => sites.ends(),
+        None => None,
+    }
 }
 
 /// Takes the sites that share a unit square with the rectangle away from those of a list, where they are those of this row.
+#[inline(always)]
 fn take_from_list<A: Allocator + Copy>(
     list: &mut Option<RowParts<A>>,
     row: &Row<'_>,
@@ -144,13 +166,13 @@ fn take_from_list<A: Allocator + Copy>(
     ensures kept { is_some list.new ≡ is_some list.old }
     ensures taken { OnOk result (LosesShared rect.now row.now size.now (unwrap_or list.old []) (unwrap_or list.new [])) }
 {
-    let Some(mut sites) = list.take() else {
-        return Ok(());
-    };
-    let met = sites_met(row, size, rect);
-    let taken = sites.take(met.from, met.end);
-    *list = Some(sites);
-    taken
+    match list {
+        Some(sites) => {
+            let met = sites_met(row, size, rect);
+            sites.take(met.from, met.end)
+        }
+        None => Ok(()),
+    }
 }
 
 /// What bounds the free sites of a list, which the rows that these numbers bound have together, where they begin where this

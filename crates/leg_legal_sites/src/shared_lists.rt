@@ -1,12 +1,12 @@
 //! Lists of free sites at the nodes of the tree over the rows. Rows whose free sites are the same have one list together, at the
 //! node beneath which they are, until a box takes sites from some of them and not from the others.
 
-ghost use Rattle.std.specs.Prelude.{◌≡◌, ◌+◌, ◌*◌, ◌/◌, ◌<◌, ◌≤◌, length, None, get_or, slice_set, IsTrue, OnOk};
+ghost use Rattle.std.specs.Prelude.{◌≡◌, ℕ, ◌+◌, ◌*◌, ◌/◌, ◌<◌, ◌≤◌, length, None, get_or, slice_set, IsTrue, OnOk};
 ghost use Rattle.leg_design_records.specs.Records.{DesignModel};
 ghost use Rattle.leg_legal_sites.specs.Steps.FreeLists.{AreRowsOf};
 ghost use Rattle.leg_legal_sites.specs.Steps.TreeOfRows.{IsLeafBeneath};
 ghost use Rattle.leg_legal_sites.specs.Steps.FreeListSharing.{list_of_node, row_lists};
-ghost use Rattle.leg_legal_sites.specs.Steps.SharedLists.{AreShared, HaveNoneAbove, IsShareable};
+ghost use Rattle.leg_legal_sites.specs.Steps.SharedLists.{AreShared, HaveNoneAbove, HaveNoneBefore, IsShareable};
 
 use crate::bounds::Bounds;
 use crate::row_keys::RowKey;
@@ -26,16 +26,23 @@ pub(crate) fn key_beneath(order: &[RowKey], node: usize) -> RowKey
     order[leaf - order.len()]
 }
 
-/// The node whose list a node has: the highest one of those above it that has one, or it itself where none has.
-pub(crate) fn owner_of<A: Allocator + Copy>(lists: &[Option<RowParts<A>>], node: usize) -> usize
+/// The node whose list a node has: the highest one of those above it that has one, or it itself where none has. No node before
+/// `highest` has a list, so none is looked at.
+pub(crate) fn owner_of<A: Allocator + Copy>(
+    lists: &[Option<RowParts<A>>],
+    highest: usize,
+    node: usize,
+) -> usize
+    requires none { HaveNoneBefore highest lists.now }
     requires first { 1 ≤ node }
     requires there { node < length lists.now }
     ensures within { result < length lists.now }
     ensures owner { get_or lists.now result None ≡ list_of_node lists.now node }
 {
+    let least = highest.max(1);
     let mut owner = node;
     let mut above = node / 2;
-    while above > 0 {
+    while above >= least {
         if lists[above].is_some() {
             owner = above;
         }
@@ -44,19 +51,45 @@ pub(crate) fn owner_of<A: Allocator + Copy>(lists: &[Option<RowParts<A>>], node:
     owner
 }
 
-/// Whether no node above this one has a list.
-pub(crate) fn is_alone<A: Allocator + Copy>(lists: &[Option<RowParts<A>>], node: usize) -> bool
-    requires { node < length lists.now }
+/// Whether no node above this one has a list, where none before `highest` has one.
+pub(crate) fn is_alone<A: Allocator + Copy>(
+    lists: &[Option<RowParts<A>>],
+    highest: usize,
+    node: usize,
+) -> bool
+    requires none { HaveNoneBefore highest lists.now }
+    requires there { node < length lists.now }
     ensures { IsTrue result → list_of_node lists.now (node / 2) ≡ None }
 {
+    let least = highest.max(1);
     let mut above = node / 2;
-    while above > 0 {
+    while above >= least {
         if lists[above].is_some() {
             return false;
         }
         above /= 2;
     }
     true
+}
+
+/// The first node from `highest` on that has a list, where none before has one; the first leaf where no node above the leaves has.
+pub(crate) fn highest_from<A: Allocator + Copy>(
+    lists: &[Option<RowParts<A>>],
+    order: &[RowKey],
+    highest: usize,
+) -> usize
+    requires count { length order.now ≤ length lists.now }
+    requires none { HaveNoneBefore highest lists.now }
+    ensures { HaveNoneBefore result lists.now }
+{
+    let mut node = highest;
+    while node < order.len() {
+        if lists[node].is_some() {
+            return node;
+        }
+        node += 1;
+    }
+    node
 }
 
 /// Puts the lists of leaves together, where rows beneath one node have the same free sites.
@@ -126,6 +159,7 @@ pub(crate) fn hand_down<A: Allocator + Copy>(
     ensures same { row_lists order.now lists.new ≡ row_lists order.now lists.old }
     ensures rows { (design : DesignModel) → AreRowsOf design (record { lists = row_lists order.now lists.old; order = order.now; nodes = nodes.old }) → AreRowsOf design (record { lists = row_lists order.now lists.old; order = order.now; nodes = nodes.new }) }
     ensures none { OnOk result (list_of_node lists.new node ≡ None) }
+    ensures before { (highest : ℕ) → HaveNoneBefore highest lists.old → HaveNoneBefore highest lists.new }
 {
     let Some(list) = &lists[node] else {
         return Ok(());

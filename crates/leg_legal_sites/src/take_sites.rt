@@ -2,25 +2,28 @@
 
 ghost use Rattle.std.specs.Prelude.{◌≡◌, ◌<◌, ◌≤◌, [], ◌∷◌, ◌++◌, ◌+◌, ◌-◌, length, take, drop, vec_len, OnOk, OnErr};
 ghost use Rattle.leg_legal_sites.specs.Steps.Stretches.{AreFreeStretches, IsWithout};
-ghost use Rattle.leg_legal_sites.specs.Steps.TakeSites.{IsCutAt, if_any, with_rests, IsPutLeft, IsPutRight};
+ghost use Rattle.leg_legal_sites.specs.Steps.TakeSites.{IsFirstEndBeyond, IsCutAt, if_any, with_rests, IsPutLeft, IsPutRight};
 
 use crate::stretch::Stretch;
 use std::alloc::{AllocError, Allocator};
 
-/// Takes the sites from the one of the first number up to the one of the second away from those of the stretches.
+/// Takes the sites from the one of the first number up to the one of the second away from those of the stretches, of which `first`
+/// is the first one that ends beyond that number.
 pub(crate) fn take_sites<A: Allocator>(
     stretches: &mut Vec<Stretch, A>,
+    first: usize,
     from: u64,
     end: u64,
 ) -> Result<(), AllocError>
-    requires { AreFreeStretches stretches.old.items }
+    requires stretches { AreFreeStretches stretches.old.items }
+    requires first { IsFirstEndBeyond stretches.old.items from first }
     ensures ok { OnOk result (IsWithout stretches.old.items from end stretches.new.items) }
     ensures err { OnErr result (stretches.new.items ≡ stretches.old.items) }
 {
     if end <= from {
         return Ok(());
     }
-    let (first, last) = cut_points(stretches.as_slice(), from, end);
+    let last = cut_end(stretches.as_slice(), first, from, end);
     if last <= first {
         return Ok(());
     }
@@ -40,16 +43,33 @@ pub(crate) fn take_sites<A: Allocator>(
     }
 }
 
-/// The first stretch that doesn't end by the site of the first number, and the first one that begins at the site of the
-/// second number or beyond.
-fn cut_points(free: &[Stretch], from: u64, end: u64) -> (usize, usize)
+/// The first stretch that ends beyond this site. The last one is looked at first.
+pub(crate) fn first_end_beyond(free: &[Stretch], site: u64) -> usize
     requires { AreFreeStretches free.now }
-    ensures cut { IsCutAt free.now from end result.0 result.1 }
-    ensures within { result.1 ≤ length free.now }
+    ensures { IsFirstEndBeyond free.now site result }
 {
-    let first = free.partition_point(|stretch| stretch.end <= from);
-    let last = free.partition_point(|stretch| stretch.from < end);
-    (first, last)
+    let count = free.len();
+    if count > 0 && free[count - 1].from <= site && site < free[count - 1].end {
+        return count - 1;
+    }
+    free.partition_point(|stretch| stretch.end <= site)
+}
+
+/// The first stretch that begins at the site of the second number or beyond, where `first` is the first one that ends beyond the
+/// first number.
+fn cut_end(free: &[Stretch], first: usize, from: u64, end: u64) -> usize
+    requires stretches { AreFreeStretches free.now }
+    requires first { IsFirstEndBeyond free.now from first }
+    requires some { from < end }
+    ensures cut { IsCutAt free.now from end first result }
+    ensures within { result ≤ length free.now }
+{
+    for i in first..free.len() {
+        if free[i].from >= end {
+            return i;
+        }
+    }
+    free.len()
 }
 
 /// Puts two stretches in the place of one.

@@ -32,6 +32,15 @@ pub record AreShared (order : List RowKey) (lists : List (Option (List Stretch))
 abbrev pub HaveNoneAbove : List RowKey → List (Option (List Stretch)) → Type 0
 HaveNoneAbove order lists = (node : ℕ) → node < length order → get_or lists node None ≡ None
 
+-- no node before this one has a list
+abbrev pub HaveNoneBefore : ℕ → List (Option (List Stretch)) → Type 0
+HaveNoneBefore highest lists = (node : ℕ) → node < highest → get_or lists node None ≡ None
+
+-- those are the lists, and no node before this one has one
+pub record AreListsFrom (highest : ℕ) (order : List RowKey) (lists : List (Option (List Stretch))) : Type 0 where
+  pub shared : AreShared order lists
+  pub none : HaveNoneBefore highest lists
+
 -- so many nodes have no list
 pub record HaveNone (many : ℕ) (lists : List (Option (List Stretch))) : Type 0 where
   pub count : length lists ≡ many

@@ -1,6 +1,18 @@
 -- Stretches of which some are taken away, and what stays of the first and of the last of them put in their place.
-use Rattle.std.specs.Prelude.{◌≡◌, ◌⊎◌, ℕ, ◌+◌, ◌-◌, ◌<◌, ◌≤◌, if◌then◌else◌, nat_lt, List, [], ◌∷◌, ◌++◌, Some, take, drop, slice_get, slice_set}
+use Rattle.std.specs.Prelude.{◌≡◌, ◌⊎◌, ℕ, ◌+◌, ◌-◌, ◌<◌, ◌≤◌, if◌then◌else◌, nat_lt, List, [], ◌∷◌, ◌++◌, length, Some, take, drop, slice_get, slice_set}
 use Rattle.leg_legal_sites.specs.declared.stretch.Stretch.{Stretch}
+
+-- the stretches before the first end by a site, and the others beyond it
+pub record IsFirstEndBeyond (free : List Stretch) (site first : ℕ) : Type 0 where
+  pub within : first ≤ length free
+  pub before : (i : ℕ) (s : Stretch) → i < first → slice_get free i ≡ Some s → s.end ≤ site
+  pub beyond : (i : ℕ) (s : Stretch) → first ≤ i → slice_get free i ≡ Some s → site < s.end
+
+-- the stretches before the end begin by a site, and the others beyond it
+pub record IsFirstStartBeyond (free : List Stretch) (site end : ℕ) : Type 0 where
+  pub within : end ≤ length free
+  pub before : (i : ℕ) (s : Stretch) → i < end → slice_get free i ≡ Some s → s.from ≤ site
+  pub beyond : (i : ℕ) (s : Stretch) → end ≤ i → slice_get free i ≡ Some s → site < s.from
 
 -- The stretches before the first end by the sites that are taken, and the others beyond where those begin. Those before
 -- the last begin before the end of the taken sites, and the others not.

@@ -1,18 +1,12 @@
 -- Stretches that are too short are passed, and the first other one has the first sites.
-use Rattle.std.proofs.Common.{◌≡◌, ◌-◌, ◌<◌, ◌≤◌, max, length, get_or, arith, rules}
-use Rattle.std.specs.Prelude.{nat_le}
+use Rattle.std.proofs.Common.{◌≡◌, ◌-◌, ◌<◌, ◌≤◌, max, length, get_or, arith}
 use Rattle.std.proofs.lemmas.Option.{slice_get-get_or}
-use Rattle.std.proofs.lemmas.List.Sorted.{IsPartitionPoint-from_clause}
 use Rattle.leg_legal_sites.specs.declared.stretch.Stretch.{Stretch}
-use Rattle.leg_legal_sites.proofs.FirstFits.{ends_partitioned, passed_none, passed_more, first_found, first_none}
+use Rattle.leg_legal_sites.proofs.FirstFits.{passed_none, passed_more, first_found, first_none}
 use Rattle.leg_legal_sites.proofs.part_search.first_from.Goals as goal
 
 pub loop-i-init : goal.loop-i-init
-loop-i-init c =
-    let free = c.args.free.now in
-    passed_none free c.args.many c.args.least _ c.requires.some
-    (IsPartitionPoint-from_clause (λ s. nat_le s.end c.args.least) free _ c.partition_point-start.ensures.partitioned
-    (ends_partitioned free c.args.least c.requires.stretches) (λ a r q k. search rules))
+loop-i-init c = passed_none c.args.free.now c.args.many c.args.least c.args.next c.requires.some c.requires.next
 
 pub returns-then-saturating_sub-many : goal.returns-then-saturating_sub-many
 returns-then-saturating_sub-many c =

@@ -135,4 +135,14 @@ returns g t c =
       taken = taken_both design rect order node (row_lists order c.args.lists.now) (row_lists order c.take_beneath.new.lists)
           (row_lists order lists) inner first c.in_ok-take_beneath-2.ensures.taken;
       alone = none_above lists (node / 2) node c.requires.first refl above;
+      before = λ highest none.
+          c.in_ok-take_beneath-2.ensures.before highest (c.in_ok-take_beneath.ensures.before highest (c.in_ok-hand_down.ensures.before highest none));
     }
+
+pub returns-in_err-take_beneath-clause-before : goal.returns-in_err-take_beneath-clause-before
+returns-in_err-take_beneath-clause-before g t c highest none =
+    c.in_err-take_beneath.ensures.before highest (c.in_ok-hand_down.ensures.before highest none)
+
+pub returns-in_err-take_beneath-2-clause-before : goal.returns-in_err-take_beneath-2-clause-before
+returns-in_err-take_beneath-2-clause-before g t c highest none =
+    c.in_err-take_beneath-2.ensures.before highest (c.in_ok-take_beneath.ensures.before highest (c.in_ok-hand_down.ensures.before highest none))

@@ -5,7 +5,7 @@ use Rattle.std.proofs.lemmas.Option.{slice_get-get_or}
 use Rattle.leg_legal_sites.specs.declared.bounds.Bounds.{Bounds}
 use Rattle.leg_legal_sites.specs.Steps.FreeListSharing.{row_lists}
 use Rattle.leg_legal_sites.proofs.SharedLists.{own_is}
-use Rattle.leg_legal_sites.proofs.ListMoves.{handed_shared, handed_same, handed_none, rows_narrowed}
+use Rattle.leg_legal_sites.proofs.ListMoves.{handed_shared, handed_same, handed_none, handed_before, rows_narrowed}
 use Rattle.leg_legal_sites.proofs.shared_lists.hand_down.Goals as goal
 
 abbrev none : Bounds
@@ -52,4 +52,5 @@ returns g c =
           (slice_get-get_or nodes (2 * node) none (omega (arith, count, inner)))
           (slice_get-get_or nodes node none (omega (arith, count, inner))) c.within.ensures rows);
       none = rw (copy, gone, taken) (handed_none order node first inner list lists c.requires.shared c.requires.alone had);
+      before = rw (copy, gone, taken) (handed_before order node first inner list lists c.requires.shared c.requires.alone had);
     }

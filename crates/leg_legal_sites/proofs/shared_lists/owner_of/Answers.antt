@@ -1,6 +1,7 @@
 -- The highest node with a list owns it.
 use Rattle.std.proofs.Common.{◌≡◌, ◌≤◌, None, get_or, sym, ap, ◌∙◌, arith}
 use Rattle.std.specs.Prelude.{is_some}
+use Rattle.leg_legal_sites.proofs.ListMoves.{none_before}
 use Rattle.leg_legal_sites.proofs.SharedLists.{node_has, owner_begins, owner_higher, owner_stays, owner_found}
 use Rattle.leg_legal_sites.proofs.shared_lists.owner_of.Goals as goal
 use Rattle.leg_legal_sites.proofs.shared_lists.owner_of.Goals.{then-is_some, else-is_some}
@@ -14,7 +15,7 @@ loop-above-preserved g c =
     let node = c.args.node in
     let above = c.loop-above.above in
     let so_far = c.loop-above.invariant in
-    let some : 1 ≤ above = let test = c.loop-above-test.true in omega (arith, test) in
+    let some : 1 ≤ above = let test = c.loop-above-test.true in omega (arith, test, c.max-least.ensures) in
     let has : c.is_some.result ≡ is_some (get_or lists above None) =
     node_has lists above so_far.before c.index-lists-above.result c.is_some.result (c.is_some.ensures ∙ ap is_some c.index-lists-above.is) in
     elim c.if-is_some.branch [
@@ -25,5 +26,6 @@ loop-above-preserved g c =
 pub returns : goal.returns
 returns g c =
     let so_far = c.loop-above.invariant in
-    let none : c.loop-above.above ≡ 0 = omega arith in
+    let test = c.loop-above-test.false in
+    let none = none_before c.args.lists.now c.args.highest c.loop-above.above c.requires.none (omega (arith, test, c.max-least.ensures)) in
     record { within = so_far.within; owner = owner_found c.args.lists.now c.args.node c.loop-above.owner c.loop-above.above none so_far }

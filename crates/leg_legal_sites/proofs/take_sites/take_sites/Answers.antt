@@ -10,40 +10,40 @@ use Rattle.leg_legal_sites.proofs.take_sites.take_sites.Goals as goal
 pub returns-then-last-first-clause-ok : goal.returns-then-last-first-clause-ok
 returns-then-last-first-clause-ok g c =
     let free = c.args.stretches.now.items in
-    let cut : IsCutAt free c.args.from c.args.end c.cut_points-first.result.0 c.cut_points-first.result.1 =
-    rw c.as_slice.ensures.value at c.cut_points-first.ensures.cut in
-    without_unmet free c.args.from c.args.end _ _ c.requires cut c.if-last-first.true
+    let cut : IsCutAt free c.args.from c.args.end c.args.first c.cut_end-last.result =
+    rw c.as_slice.ensures.value at c.cut_end-last.ensures.cut in
+    without_unmet free c.args.from c.args.end _ _ c.requires.stretches cut c.if-last-first.true
 
 pub returns-then-has_sites-2-clause-ok : goal.returns-then-has_sites-2-clause-ok
 returns-then-has_sites-2-clause-ok g c =
     let free = c.args.stretches.now.items in
-    let first = c.cut_points-first.result.0 in
-    let last = c.cut_points-first.result.1 in
+    let first = c.args.first in
+    let last = c.cut_end-last.result in
     let a = c.index.result.now in
     let b = c.index-2.result.now in
-    let cut : IsCutAt free c.args.from c.args.end first last = rw c.as_slice.ensures.value at c.cut_points-first.ensures.cut in
+    let cut : IsCutAt free c.args.from c.args.end first last = rw c.as_slice.ensures.value at c.cut_end-last.ensures.cut in
     let met : first < last = c.if-last-first.false in
     let same : length c.as_slice.result.now ≡ length free = rw c.as_slice.ensures.value refl in
-    let within = c.cut_points-first.ensures.within in
+    let within = c.cut_end-last.ensures.within in
     let at_a : slice_get free first ≡ Some a = slice_get_read free _ first a refl (omega arith) c.index.ensures in
     let at_b : slice_get free (last - 1) ≡ Some b = slice_get_read free _ (last - 1) b refl (omega arith) c.index-2.ensures in
     let one : first + 1 ≡ last = c.if-first-last.true in
     let l : nat_lt a.from c.args.from ≡ true = sym c.has_sites.ensures ∙ c.if-has_sites.true in
     let r : nat_lt c.args.end b.end ≡ true = sym c.has_sites-then-has_sites.ensures ∙ c.if-has_sites-2.true in
-    on_ok_weaker c.split.result (without_both free c.args.from c.args.end first last c.requires cut c.if-end-from.false met a b at_a at_b one l r
+    on_ok_weaker c.split.result (without_both free c.args.from c.args.end first last c.requires.stretches cut c.if-end-from.false met a b at_a at_b one l r
     c.split.new.stretches.items) c.split.ensures.ok
 
 pub returns-else-first-last-clause-ok : goal.returns-else-first-last-clause-ok
 returns-else-first-last-clause-ok g c =
     let free = c.args.stretches.now.items in
-    let first = c.cut_points-first.result.0 in
-    let last = c.cut_points-first.result.1 in
+    let first = c.args.first in
+    let last = c.cut_end-last.result in
     let a = c.index.result.now in
     let b = c.index-2.result.now in
-    let cut : IsCutAt free c.args.from c.args.end first last = rw c.as_slice.ensures.value at c.cut_points-first.ensures.cut in
+    let cut : IsCutAt free c.args.from c.args.end first last = rw c.as_slice.ensures.value at c.cut_end-last.ensures.cut in
     let met : first < last = c.if-last-first.false in
     let same : length c.as_slice.result.now ≡ length free = rw c.as_slice.ensures.value refl in
-    let within = c.cut_points-first.ensures.within in
+    let within = c.cut_end-last.ensures.within in
     let at_a : slice_get free first ≡ Some a = slice_get_read free _ first a refl (omega arith) c.index.ensures in
     let at_b : slice_get free (last - 1) ≡ Some b = slice_get_read free _ (last - 1) b refl (omega arith) c.index-2.ensures in
-    rw c.shrink.ensures (without_met free c.args.from c.args.end first last c.requires cut c.if-end-from.false met a b at_a at_b)
+    rw c.shrink.ensures (without_met free c.args.from c.args.end first last c.requires.stretches cut c.if-end-from.false met a b at_a at_b)

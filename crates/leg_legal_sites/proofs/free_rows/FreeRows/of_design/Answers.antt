@@ -6,7 +6,7 @@ use Rattle.leg_legal_sites.specs.Steps.RowOrder.{IsRowOrder}
 use Rattle.leg_legal_sites.specs.Steps.FreeListSharing.{row_lists}
 use Rattle.leg_legal_sites.specs.Steps.FreeLists.{AreFreeLists}
 use Rattle.leg_legal_sites.specs.Steps.FreeRows.{AreInside}
-use Rattle.leg_legal_sites.specs.Steps.SharedLists.{AreLeafLists}
+use Rattle.leg_legal_sites.specs.Steps.SharedLists.{AreShared, AreLeafLists}
 use Rattle.leg_legal_sites.proofs.RowsInside.{inside_die}
 use Rattle.leg_legal_sites.proofs.LeafLists.{leaves_inside, leaves_none, leaves_shared}
 use Rattle.leg_legal_sites.proofs.free_rows.FreeRows.of_design.Goals as goal
@@ -26,6 +26,17 @@ share_upward-requires-clause-alone g c =
     let is_order : IsRowOrder c.args.design.now.rows order = rw c.rows.ensures.is at c.in_ok-order.ensures.order in
     let are : AreLeafLists c.args.design.now order (length order) lists = rw c.as_slice.ensures.value at c.in_ok-lists.ensures in
     rw (c.as_slice-4.ensures.value, c.as_mut_slice.ensures.value) (leaves_none c.args.design.now order is_order lists are)
+
+pub invariant_of-result : goal.invariant_of-result
+invariant_of-result g c =
+    let old = c.in_ok-lists.lists.items in
+    let new = c.share_upward.new.lists in
+    let long = c.as_mut_slice.ensures.len in
+    let kept = c.share_upward.auto.lists in
+    let count : length new ≡ c.in_ok-lists.lists.len = omega (arith, long, kept) in
+    let whole = take_at new (drop (length new) old) c.in_ok-lists.lists.len count in
+    let shared : AreShared c.in_ok-order.order.items new = rw c.as_slice-4.ensures.value at c.share_upward.ensures.shared in
+    rw whole (record { shared = shared; none = λ node below. absurd (omega (arith, below)) })
 
 pub returns : goal.returns
 returns g c =

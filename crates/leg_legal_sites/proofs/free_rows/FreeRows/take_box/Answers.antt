@@ -4,6 +4,7 @@ use Rattle.std.proofs.lemmas.Bool.{eqb-true}
 use Rattle.std.proofs.lemmas.List.{take_at}
 use Rattle.leg_legal_sites.specs.Steps.FreeLists.{RowLists}
 use Rattle.leg_legal_sites.specs.Steps.FreeListSharing.{row_lists}
+use Rattle.leg_legal_sites.specs.Steps.SharedLists.{AreShared}
 use Rattle.leg_legal_sites.proofs.TakenRows.{box_taken, box_of_none}
 use Rattle.leg_legal_sites.proofs.free_rows.FreeRows.take_box.Goals as goal
 
@@ -13,6 +14,16 @@ returns-then-is_empty g c =
     let none : length c.self.inside.order.items ≡ 0 =
     rw c.as_slice-order.ensures.value at (eqb-true (length c.as_slice-order.result.now) 0 (sym c.if-is_empty.ensures)) in
     box_of_none c.args.design.now c.args.rect.now c.args.self.now (rw (← same) none)
+
+pub invariant_of-self : goal.invariant_of-self
+invariant_of-self g c =
+    let lists = c.take_from_rows.new.lists in
+    let long = c.as_mut_slice.ensures.len in
+    let kept = c.take_from_rows.auto.lists in
+    let count : length lists ≡ c.self.inside.lists.len = omega (arith, long, kept) in
+    let whole = take_at lists (drop (length lists) c.self.inside.lists.items) c.self.inside.lists.len count in
+    let shared : AreShared c.self.inside.order.items lists = rw c.as_slice-order.ensures.value at c.take_from_rows.ensures.shared in
+    rw whole (record { shared = shared; none = c.take_from_rows.ensures.none })
 
 pub returns : goal.returns
 returns g c =
