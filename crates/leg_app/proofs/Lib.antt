@@ -2,7 +2,6 @@
 pub mod Denotations
 -- What is answered
 mod AnswerLemmas
-mod MoveLines
 mod OneMaking
 mod OneAnswer
 mod CutTexts

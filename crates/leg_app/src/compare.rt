@@ -18,11 +18,10 @@ ghost use Rattle.leg_app.specs.Steps.FaultReasons.{IsOfMaster};
 
 use crate::answer::needed_master;
 use crate::compare_end::{ComparisonAnswer, ComparisonReason, Side};
-use crate::compare_lines::comparison_text;
-use crate::lines::{refused_line, scale_text};
 use crate::status::Status;
 use crate::text_fault::TextFault;
 use crate::texts::{behind_lefs, library_for};
+use leg_app_lines::{comparison_text, refused_line, scale_text};
 use leg_app_reason::Reason;
 use leg_compare::{Verdict, differences, verdict_of};
 use leg_design::DefText;

@@ -9,9 +9,11 @@ ghost use Rattle.leg_app.specs.Reason.{Explains, IsSoOfDesign};
 ghost use Rattle.leg_app.specs.Steps.Making.{IsMaking};
 
 use crate::answer::{Answer, copied, unsolved};
-use crate::finish_lines::{finished_text, piece_name, unfinished_text, unreachable_text};
-use crate::route_lines::{flat_again, net_name, not_clean_text};
 use crate::status::Status;
+use leg_app_lines::{
+    finished_text, flat_again, net_name, not_clean_text, piece_name, unfinished_text,
+    unreachable_text,
+};
 use leg_app_reason::{Reason, Stage};
 use leg_design_records::Design;
 use leg_design_records::laws::design_is_sound;
@@ -32,7 +34,7 @@ pub(crate) fn finish_answer<'e, A: Allocator + Copy, P: Progress>(
     match finish(alloc, library, design, progress) {
         Ok((finished, totals)) => {
             design_is_sound(&finished);
-            let text = finished_text(alloc, &finished, totals)?;
+            let text = finished_text(alloc, &finished, totals.length, totals.vias)?;
             Ok(Answer {
                 status: Status::Success,
                 text,

@@ -10,9 +10,9 @@ ghost use Rattle.leg_app.specs.Steps.Making.{IsMaking};
 
 use crate::answer::Answer;
 use crate::legalise_answer::not_legalised;
-use crate::legalise_lines::legalised_text;
 use crate::route_answer::not_routed;
 use crate::status::Status;
+use leg_app_lines::legalised_text;
 use leg_app_reason::Stage;
 use leg_design_records::Design;
 use leg_design_records::laws::design_is_sound;

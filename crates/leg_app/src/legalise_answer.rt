@@ -11,9 +11,8 @@ ghost use Rattle.leg_app.specs.LegaliseResult.{ReportsNotLegalised};
 ghost use Rattle.leg_app.specs.Steps.Making.{IsMaking};
 
 use crate::answer::{Answer, copied, unsolved};
-use crate::legalise_lines::{component_name, fixed_illegal_text, legalised_text};
-use crate::lines::name_line;
 use crate::status::Status;
+use leg_app_lines::{component_name, fixed_illegal_text, legalised_text, name_line};
 use leg_app_reason::Reason;
 use leg_design_records::Design;
 use leg_design_records::laws::design_is_sound;

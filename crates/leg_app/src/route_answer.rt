@@ -16,10 +16,8 @@ ghost use Rattle.leg_app.specs.RouteResult.{ReportsNotRouted};
 ghost use Rattle.leg_app.specs.Steps.Making.{IsMaking};
 
 use crate::answer::{Answer, copied, unsolved};
-use crate::finish_lines::piece_name;
-use crate::lines::name_line;
-use crate::route_lines::{flat_again, net_name, not_clean_text};
 use crate::status::Status;
+use leg_app_lines::{flat_again, name_line, net_name, not_clean_text, piece_name};
 use leg_app_reason::{Reason, Stage};
 use leg_design_records::Design;
 use leg_design_records::laws::design_is_sound;

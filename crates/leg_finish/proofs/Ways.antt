@@ -10,13 +10,13 @@ use Rattle.leg_route_search.proofs.LastSteps.{end_open}
 use Rattle.leg_route_search.proofs.ReachedEnds.{walk_open}
 use Rattle.leg_rules.specs.Route.Walk.{IsShortest, NoWalk}
 use Rattle.leg_rules.specs.declared.node.Node.{Node}
-use Rattle.leg_route_grid.specs.declared.slot_access.SlotAccess.{SlotAccess}
+use Rattle.leg_route_access.specs.declared.slot_access.SlotAccess.{SlotAccess}
 use Rattle.leg_route_grid.specs.declared.slot_box.SlotBox.{SlotBox}
 use Rattle.leg_rules.specs.Route.Nodes.{IsNode}
 use Rattle.leg_rules.specs.Route.OpenMetal.{IsOpenNode, IsOpenStep}
-use Rattle.leg_route_grid.specs.Steps.WalkBounds.{IsNeighbourNear}
+use Rattle.leg_route_access.specs.Steps.NearNeighbours.{IsNeighbourNear}
 use Rattle.leg_route_grid.specs.Steps.Grid.{GridModel, IsNumberOf}
-use Rattle.leg_route_grid.specs.Steps.AccessToNet.{IsNodeAdmitted, IsStepAdmitted}
+use Rattle.leg_route_access.specs.Steps.AccessToNet.{IsNodeAdmitted, IsStepAdmitted}
 use Rattle.leg_route_grid.specs.Steps.NodeNumbers.{IsOneOf, IsNodeAmong}
 use Rattle.leg_finish.specs.Steps.Reach.{HasNoWay}
 

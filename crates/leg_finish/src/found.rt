@@ -15,7 +15,8 @@ use crate::to_join::nets_to_join;
 use leg_design_records::{Design, Wire};
 use leg_finish_search::{Budget, Negotiated, Progress, negotiate};
 use leg_flat::Flat;
-use leg_route_grid::{Grid, slots_beside};
+use leg_route_access::slots_beside;
+use leg_route_grid::Grid;
 use std::alloc::{AllocError, Allocator};
 
 /// What a search comes to.

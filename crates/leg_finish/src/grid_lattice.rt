@@ -6,7 +6,8 @@ ghost use Rattle.leg_route_grid.specs.Steps.Grid.{slot_total};
 use leg_design_records::Design;
 use leg_finish_search::{Element, GridPoint, Lattice, Part};
 use leg_lib_records::{Direction, Layer};
-use leg_route_grid::{Grid, Slot, SlotAccess, grid_is_sound, square};
+use leg_route_access::{SlotAccess, square};
+use leg_route_grid::{Grid, Slot, grid_is_sound};
 use std::alloc::{AllocError, Allocator};
 
 /// A grid, and to which nets each of its nodes and steps is open.

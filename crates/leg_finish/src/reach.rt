@@ -3,7 +3,7 @@
 ghost use Rattle.std.specs.Prelude.{◌≡◌, ◌↔◌, ◌<◌, IsTrue, Some, slice_get, All, length, IfOk};
 ghost use Rattle.leg_route_grid.specs.Steps.Grid.{slot_total};
 ghost use Rattle.leg_route_grid.specs.Steps.WalkBounds.{AreBoxed};
-ghost use Rattle.leg_route_grid.specs.Steps.AccessTable.{IsAccessTable};
+ghost use Rattle.leg_route_access.specs.Steps.AccessTable.{IsAccessTable};
 ghost use Rattle.leg_rules.specs.Finish.Reach.{IsUnreachable, IsFirstOfNetIfAny};
 ghost use Rattle.leg_finish.specs.Steps.OpenNets.{IsOpenWith, AreOpenNets};
 ghost use Rattle.leg_finish.specs.Steps.Reach.{HasNoWay, IsFirstUnreachableIfAny};
@@ -12,10 +12,10 @@ use crate::group_slots::group_slots;
 use crate::groups::OpenNet;
 use leg_design_records::Design;
 use leg_flat::Flat;
-use leg_route_grid::laws::{nodes_have_numbers, searches_walk_as_nodes};
-use leg_route_grid::{
-    BoxedSlots, Grid, NetGraph, SlotAccess, grid_is_sound, hulls_of, slots_beside,
-};
+use leg_route_access::laws::searches_walk_as_nodes;
+use leg_route_access::{NetGraph, SlotAccess, slots_beside};
+use leg_route_grid::laws::nodes_have_numbers;
+use leg_route_grid::{BoxedSlots, Grid, grid_is_sound, hulls_of};
 use leg_route_search::{Marks, shortest};
 use leg_wire::laws::{joined_both_ways, joined_onward};
 use std::alloc::{AllocError, Allocator};

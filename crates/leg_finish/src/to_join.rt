@@ -9,7 +9,8 @@ use crate::groups::OpenNet;
 use leg_finish_search::NetToJoin;
 use leg_flat::Flat;
 use leg_lib_records::Items;
-use leg_route_grid::{Grid, SlotAccess};
+use leg_route_access::SlotAccess;
+use leg_route_grid::Grid;
 use std::alloc::{AllocError, Allocator};
 
 /// The nets with their groups, and of each group the nodes that are open to the net.

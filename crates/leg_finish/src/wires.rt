@@ -5,7 +5,8 @@ ghost use Rattle.leg_design_records.specs.WellFormedNets.{IsWire};
 
 use leg_design_records::{Design, Wire};
 use leg_lib_records::Items;
-use leg_route_grid::{Grid, is_walk, nodes_of, wires_of};
+use leg_route_access::{is_walk, nodes_of, wires_of};
+use leg_route_grid::Grid;
 use std::alloc::{AllocError, Allocator};
 
 /// The wires of a walk, given by the numbers of its slots. None where it is no walk over the grid.

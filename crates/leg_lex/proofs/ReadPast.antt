@@ -2,7 +2,6 @@
 use Rattle.std.proofs.Common.{◌≡◌, ℕ, suc, ◌<◌, Bool, true, false, List, [], ◌∷◌, length, Option, None, Some, is_some, refl, sym, ap, ◌∙◌, arith}
 use Rattle.std.specs.Option.{option_or}
 use Rattle.std.proofs.lemmas.Bool.{false≢true}
-use Rattle.leg_lemmas.proofs.Options.{none_is}
 use Rattle.leg_lex.specs.Words.{Words, is_at, is_keyword, next_at, keyword_at}
 use Rattle.leg_lex.specs.Past.{past}
 use Rattle.leg_lex.proofs.Parts.{rest_is}
@@ -35,7 +34,10 @@ module _ {Y : Type 0} (form : Words → Option (Y × Words)) where
   -- The words end before the form stands anywhere.
   pub past_nowhere : (words : Words) → next_at words ≡ None → is_some (form words) ≡ false → past form words ≡ None
   unfolding past next_at
-  past_nowhere [] next none = none_is (form []) none
+  past_nowhere [] next none = by (form []) none where
+    by : (said : Option (Y × Words)) → is_some said ≡ false → said ≡ None
+    by None none = refl
+    by (Some there) none = absurd (false≢true (sym none))
   past_nowhere (first ∷ words) next none = absurd (let f : ⊥ = cc in f)
 
   -- What is read past takes as many words as the form at least.

@@ -14,17 +14,19 @@ use Rattle.leg_route_search.specs.Steps.SideSteps.{IsStep}
 use Rattle.leg_route_search.specs.Steps.Search.{IsRound}
 use Rattle.leg_route_search.specs.Steps.Dive.{IsOrigin, AreFar}
 use Rattle.leg_route_search.proofs.LastSteps.{back_holds}
-use Rattle.leg_route_grid.specs.declared.slot_access.SlotAccess.{SlotAccess}
+use Rattle.leg_route_access.specs.declared.slot_access.SlotAccess.{SlotAccess}
 use Rattle.leg_route_grid.specs.declared.slot_box.SlotBox.{SlotBox}
-use Rattle.leg_route_grid.specs.Steps.WalkBounds.{slot_of, bound_at, IsNeighbourNear}
+use Rattle.leg_route_grid.specs.Steps.WalkBounds.{slot_of, bound_at}
+use Rattle.leg_route_access.specs.Steps.NearNeighbours.{IsNeighbourNear}
 use Rattle.leg_route_grid.specs.Steps.Grid.{GridModel, IsDesignGrid, IsNumberOf, slot_total}
 use Rattle.leg_route_grid.specs.Steps.NodeNumbers.{IsOneOf, IsStepOf}
-use Rattle.leg_route_grid.specs.Steps.AccessTable.{IsAccessTable}
-use Rattle.leg_route_grid.specs.Steps.AccessToNet.{IsNodeAdmitted, IsStepAdmitted}
-use Rattle.leg_route_grid.proofs.AccessSteps.{node_admitted, step_admitted}
-use Rattle.leg_route_grid.proofs.Bounds.{beside_near, nearest_both}
-use Rattle.leg_route_grid.proofs.OpenSteps.{steps_have_sides}
-use Rattle.leg_route_grid.proofs.TableNumbers.{walk_as, shortest_as, none_as}
+use Rattle.leg_route_access.specs.Steps.AccessTable.{IsAccessTable}
+use Rattle.leg_route_access.specs.Steps.AccessToNet.{IsNodeAdmitted, IsStepAdmitted}
+use Rattle.leg_route_access.proofs.AccessSteps.{node_admitted, step_admitted}
+use Rattle.leg_route_grid.proofs.Bounds.{nearest_both}
+use Rattle.leg_route_access.proofs.TurnedNeighbours.{beside_near}
+use Rattle.leg_route_access.proofs.OpenSteps.{steps_have_sides}
+use Rattle.leg_route_access.proofs.TableNumbers.{walk_as, shortest_as, none_as}
 use Rattle.leg_route.specs.declared.end_slots.EndSlot.{EndSlot}
 use Rattle.leg_route.specs.Steps.EndSlots.{IsBoundFrom, IsOpenSlot, IsFarSlot, AreSameEnds}
 use Rattle.leg_route.specs.Steps.NetSlots.{IsNearestAt}

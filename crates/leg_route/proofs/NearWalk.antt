@@ -12,9 +12,9 @@ use Rattle.leg_rules.specs.Route.Walk.{IsShortest, NoWalk}
 use Rattle.leg_route_search.specs.Steps.Dive.{IsOrigin}
 use Rattle.leg_route_search.proofs.LastSteps.{end_open}
 use Rattle.leg_route_grid.specs.declared.slot_box.SlotBox.{SlotBox}
-use Rattle.leg_route_grid.specs.declared.slot_access.SlotAccess.{SlotAccess}
+use Rattle.leg_route_access.specs.declared.slot_access.SlotAccess.{SlotAccess}
 use Rattle.leg_route_grid.specs.declared.hulls.Hull.{Hull}
-use Rattle.leg_route_grid.specs.Steps.AccessTable.{IsAccessTable}
+use Rattle.leg_route_access.specs.Steps.AccessTable.{IsAccessTable}
 use Rattle.leg_route_grid.specs.Steps.WalkBounds.{bound_at}
 use Rattle.leg_route_grid.specs.Steps.Grid.{GridModel, IsDesignGrid, IsNumberOf, slot_total}
 use Rattle.leg_route_grid.specs.Steps.NodeNumbers.{IsOneOf, IsStepOf, IsNextWalkAt, HasNoWalkAt}

@@ -10,12 +10,13 @@ use Rattle.leg_route_search.specs.Steps.Dive.{IsOrigin}
 use Rattle.leg_route_search.specs.Steps.Search.{IsRound, IsShortestIfAny}
 use Rattle.leg_rules.specs.Route.Walk.{IsShortest, NoWalk}
 use Rattle.leg_rules.specs.declared.node.Node.{Node}
-use Rattle.leg_route_grid.specs.declared.slot_access.SlotAccess.{SlotAccess}
+use Rattle.leg_route_access.specs.declared.slot_access.SlotAccess.{SlotAccess}
 use Rattle.leg_route_grid.specs.declared.slot_box.SlotBox.{SlotBox}
-use Rattle.leg_route_grid.specs.Steps.WalkBounds.{bound_at, AreBoxed, IsNeighbourNear}
+use Rattle.leg_route_grid.specs.Steps.WalkBounds.{bound_at, AreBoxed}
+use Rattle.leg_route_access.specs.Steps.NearNeighbours.{IsNeighbourNear}
 use Rattle.leg_route_grid.specs.Steps.Grid.{GridModel, IsNumberOf, slot_total}
 use Rattle.leg_rules.specs.Route.Meets.{MeetsJoined}
-use Rattle.leg_route_grid.specs.Steps.AccessToNet.{IsNodeAdmitted, IsStepAdmitted}
+use Rattle.leg_route_access.specs.Steps.AccessToNet.{IsNodeAdmitted, IsStepAdmitted}
 use Rattle.leg_route_grid.specs.Steps.NodeNumbers.{IsOneOf, IsNextWalkAt, HasNoWalkAt}
 use Rattle.leg_rules.specs.Route.Run.{IsNextWalk}
 use Rattle.leg_route.specs.Steps.NetSlots.{IsNextAnswerAt, IsNearestAt}

@@ -22,8 +22,8 @@ use Rattle.leg_rules.specs.Route.Spelling.IsStraight.{one, more}
 use Rattle.leg_rules.specs.Route.Spelling.Spells.{done, through, along}
 use Rattle.leg_rules.specs.Route.Spelling.AreWiresOf.{stays, goes}
 use Rattle.leg_route_grid.proofs.OpenNodes.{one_width}
-use Rattle.leg_route_grid.proofs.OpenSteps.{other_layer}
-use Rattle.leg_route_grid.proofs.GrownSlots.{one_patch, one_wire}
+use Rattle.leg_route_access.proofs.OpenSteps.{other_layer}
+use Rattle.leg_route_access.proofs.GrownSlots.{one_patch, one_wire}
 use Rattle.leg_route_laws.specs.Lines.{EachStep, last_spot}
 use Rattle.leg_lemmas.proofs.Places.{contains_at}
 use Rattle.leg_route.proofs.GrownLaws.{RunOfCleanWires}

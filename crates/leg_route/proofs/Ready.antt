@@ -12,7 +12,7 @@ use Rattle.leg_rules.specs.Metal.MoreWires.{HasOneMoreWire}
 use Rattle.leg_wire.specs.NetShapes.{AreNumbersOf}
 use Rattle.leg_wire.specs.Joins.{JoinsModel}
 use Rattle.leg_route_search.specs.declared.mark.Mark.{Mark}
-use Rattle.leg_route_grid.specs.declared.slot_access.SlotAccess.{SlotAccess}
+use Rattle.leg_route_access.specs.declared.slot_access.SlotAccess.{SlotAccess}
 use Rattle.leg_route_grid.specs.Steps.Grid.{GridModel}
 use Rattle.leg_route_laws.specs.Growth.{Grows, of_net}
 use Rattle.leg_route.specs.Steps.JoinedPart.{PartModel}

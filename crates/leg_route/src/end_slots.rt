@@ -2,7 +2,7 @@
 
 ghost use Rattle.std.specs.Prelude.{◌≡◌, ◌≤◌, ◌<◌, ◌++◌, ◌∷◌, [], ℕ, true, IsTrue, length, get_or, map, All, IfOk, OnOk};
 ghost use Rattle.leg_wire.specs.Steps.NumberSets.{AreTogether};
-ghost use Rattle.leg_route_grid.specs.Steps.AccessToNet.{IsNodeAdmitted};
+ghost use Rattle.leg_route_access.specs.Steps.AccessToNet.{IsNodeAdmitted};
 ghost use Rattle.leg_route_grid.specs.Steps.Grid.{slot_total};
 ghost use Rattle.leg_route_grid.specs.Steps.Hulls.{AreHulls};
 ghost use Rattle.leg_route_grid.specs.Steps.WalkBounds.{IsBoxOf};
@@ -12,7 +12,8 @@ ghost use Rattle.leg_route.specs.Steps.EndSlots.{IsApart, MeetsPiece, IsBoundFro
 use crate::next_wires::has_mark;
 use leg_flat::Shape;
 use leg_geom::Rect;
-use leg_route_grid::{BoxedSlots, Grid, Hull, SlotAccess, SlotBox, add_slots_in, bound};
+use leg_route_access::SlotAccess;
+use leg_route_grid::{BoxedSlots, Grid, Hull, SlotBox, add_slots_in, bound};
 use std::alloc::{AllocError, Allocator};
 
 /// A slot in a piece of a net that is not joined to its first one, and a number of steps, of which an open walk of the net from the

@@ -6,7 +6,7 @@ ghost use Rattle.leg_rules.specs.Joins.Touch.{piece_count, AreJoined};
 ghost use Rattle.leg_wire.specs.Joins.{AreJoinsOf};
 ghost use Rattle.leg_wire.specs.NetShapes.{AreNumbersOf};
 ghost use Rattle.leg_wire.specs.PieceMarks.{AreMarks, AreFirsts};
-ghost use Rattle.leg_route_grid.specs.Steps.AccessTable.{IsAccessTable};
+ghost use Rattle.leg_route_access.specs.Steps.AccessTable.{IsAccessTable};
 ghost use Rattle.leg_route_grid.specs.Steps.Grid.{GridModel};
 ghost use Rattle.leg_route.specs.Steps.JoinedPart.{part_in, IsJoinedPart, HaveCome, HaveMarked, HaveGotSlots, IsGrowing, MeetsMetal, MeetsPieces};
 ghost use Rattle.leg_route.specs.Steps.NetEnds.{ends_in};
@@ -16,9 +16,8 @@ use crate::end_slots::{are_joined_from, ends_left, ends_of};
 use crate::net_ends::{NetEnds, net_ends, note_boxes};
 use crate::next_wires::marked_slots;
 use leg_flat::Flat;
-use leg_route_grid::{
-    BoxedSlots, Grid, Hull, SlotAccess, add_hulls, add_slots_in, grid_is_sound, hulls_of,
-};
+use leg_route_access::SlotAccess;
+use leg_route_grid::{BoxedSlots, Grid, Hull, add_hulls, add_slots_in, grid_is_sound, hulls_of};
 use leg_wire::{NetJoins, PieceShape};
 use std::alloc::{AllocError, Allocator};
 

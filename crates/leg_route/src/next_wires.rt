@@ -9,7 +9,7 @@ ghost use Rattle.leg_route_grid.specs.Steps.Grid.{IsNumberOf, slot_total};
 ghost use Rattle.leg_route_grid.specs.Steps.WalkBounds.{AreBoxed};
 ghost use Rattle.leg_rules.specs.Route.Meets.{MeetsRest};
 ghost use Rattle.leg_route_grid.specs.Steps.NodeNumbers.{IsOneOf};
-ghost use Rattle.leg_route_grid.specs.Steps.AccessTable.{IsAccessTable};
+ghost use Rattle.leg_route_access.specs.Steps.AccessTable.{IsAccessTable};
 ghost use Rattle.leg_route.specs.Steps.NetSlots.{HasMark, AreMarkedSlots, IsPartOf, IsSearchFrom, IsNextAnswerAt, IsNearestAt, IsNearAnswerAt};
 ghost use Rattle.leg_route.specs.declared.end_slots.EndSlot.{EndSlot};
 ghost use Rattle.leg_route.specs.Steps.EndSlots.{IsFarSlot, AreSameEnds};
@@ -21,13 +21,12 @@ use crate::joined_part::JoinedPart;
 use crate::net_ends::{bring_near, first_reach, least_far};
 use leg_design_records::{Design, Wire};
 use leg_flat::{Flat, Shape};
-use leg_route_grid::laws::{
-    nodes_have_numbers, numbers_walk_as_nodes, open_walks_are_grid_walks, searches_walk_as_numbers,
+use leg_route_access::laws::{
+    numbers_walk_as_nodes, open_walks_are_grid_walks, searches_walk_as_numbers,
 };
-use leg_route_grid::{
-    BoxedSlots, Grid, Hull, NetGraph, SlotAccess, add_slots_in, grid_is_sound, hulls_of, nodes_of,
-    wires_of,
-};
+use leg_route_access::{NetGraph, SlotAccess, nodes_of, wires_of};
+use leg_route_grid::laws::nodes_have_numbers;
+use leg_route_grid::{BoxedSlots, Grid, Hull, add_slots_in, grid_is_sound, hulls_of};
 use leg_route_search::{Marks, far_walk, near_walk};
 use std::alloc::{AllocError, Allocator};
 

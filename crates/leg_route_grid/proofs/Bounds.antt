@@ -4,7 +4,6 @@ use Rattle.std.proofs.Math.Nat.{mul-le-mul_left, mul-le-mul_right, min-le_left, 
 use Rattle.std.proofs.lemmas.Nat.{div-mul-add, mod-mul-add}
 use Rattle.leg_lemmas.proofs.Contents.{Contains-nil, Contains-here, Contains-there, Contains-cons_cases}
 use Rattle.leg_rules.specs.declared.side.Side.{Side}
-use Rattle.leg_route_search.specs.Steps.Side.{opposite}
 use Rattle.leg_rules.specs.declared.side.Side.TheVariants.{West, East, South, North, Below, Above}
 use Rattle.leg_route_grid.specs.declared.slot.Slot.{Slot}
 use Rattle.leg_route_grid.specs.declared.slot_box.SlotBox.{SlotBox}
@@ -12,7 +11,7 @@ use Rattle.leg_route_grid.specs.Steps.Grid.{GridModel, IsDesignGrid, IsSlot, slo
 use Rattle.leg_route_grid.specs.Steps.SlotNeighbours.{IsSlotNeighbour}
 use Rattle.leg_route_grid.specs.Steps.NodeNumbers.{IsNeighbourAt}
 use Rattle.leg_rules.specs.declared.grid_limits.TheConstants.{GREATEST_GRID}
-use Rattle.leg_route_grid.specs.Steps.WalkBounds.{gap, slot_bound, nearest, slot_of, bound_at, IsBoxOf, IsInBox, IsNeighbourNear}
+use Rattle.leg_route_grid.specs.Steps.WalkBounds.{gap, slot_bound, nearest, slot_of, bound_at, IsBoxOf, IsInBox}
 use Rattle.leg_route_grid.proofs.Slots.{by_division}
 use Rattle.leg_route_grid.proofs.StepsAt.{step_from}
 
@@ -201,24 +200,3 @@ in_boxes grid boxes ends n s slot has inside =
     let none : slot_bound ends s ≡ 0 = in_box ends s inside in
     let left : nearest boxes s ≡ 0 = none_upto (nearest boxes s) (slot_bound ends s) upto none in
     bound_is grid boxes n s slot ∙ left
-
--- what lies on a side of a node has it on the other
-pub turned_beside : (grid : GridModel) (side : Side) (n to : ℕ) → IsNeighbourAt grid side n to → IsNeighbourAt grid (opposite side) to n
-turned_beside grid West n to step = record { a = step.b; b = step.a; a_is = step.b_is; b_is = step.a_is; step = step.step }
-turned_beside grid East n to step = record { a = step.b; b = step.a; a_is = step.b_is; b_is = step.a_is; step = step.step }
-turned_beside grid South n to step = record { a = step.b; b = step.a; a_is = step.b_is; b_is = step.a_is; step = step.step }
-turned_beside grid North n to step = record { a = step.b; b = step.a; a_is = step.b_is; b_is = step.a_is; step = step.step }
-turned_beside grid Below n to step = record { a = step.b; b = step.a; a_is = step.b_is; b_is = step.a_is; step = step.step }
-turned_beside grid Above n to step = record { a = step.b; b = step.a; a_is = step.b_is; b_is = step.a_is; step = step.step }
-
-pub beside_near : (grid : GridModel) (starts ends : List SlotBox) (side : Side) (n to : ℕ) → IsDesignGrid grid → IsNeighbourAt grid side n to
-    → IsNeighbourNear grid starts ends side n to
-beside_near grid starts ends side n to is_grid step =
-    let back = turned_beside grid side n to step in record {
-      beside = step;
-      across = back;
-      nearer = one_nearer grid ends side n to is_grid step;
-      nearer_across = one_nearer grid ends (opposite side) to n is_grid back;
-      further = one_nearer grid starts (opposite side) to n is_grid back;
-      further_across = one_nearer grid starts side n to is_grid step;
-    }

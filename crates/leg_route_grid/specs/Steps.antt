@@ -2,18 +2,9 @@
 pub mod Lines
 pub mod LayerList
 pub mod Joining
-pub mod Stretches
 pub mod SlotSides
-pub mod Towards
-pub mod FirstWire
 pub mod SlotRanges
 pub mod Boxes
-pub mod AccessUpdates
-pub mod SameShape
-pub mod Reaches
-pub mod AccessTable
-pub mod AccessToNet
-pub mod SmallRects
 pub mod WalkBounds
 pub mod SlotNeighbours
 pub mod Places
@@ -21,5 +12,4 @@ pub mod NodesInRect
 pub mod TrackMarks
 pub mod NodeNumbers
 pub mod Grid
-pub mod GridWalk
 pub mod Hulls

@@ -334,7 +334,7 @@ impl<'g, 'a, A: Allocator + Copy> Grid<'g, 'a, A> {
     }
 
     /// The width of the wires on the layer of the slot of this number.
-    pub(crate) fn width_at(&self, number: u32) -> i64
+    pub fn width_at(&self, number: u32) -> i64
         requires { number < slot_total self.now }
         ensures is { (node : Node) → IsNumberOf self.now number node → ((direction : Direction) × Runs self.now.design.library node.layer direction result) }
         ensures proper { IsWidth result }

@@ -55,7 +55,7 @@ pub(crate) fn routing_layers<A: Allocator>(
 }
 
 /// Which of the routing layers, bottom up, has this number in the library, if one has.
-pub(crate) fn routing_layer_of(layers: &[RoutingLayer], number: usize) -> Option<usize>
+pub fn routing_layer_of(layers: &[RoutingLayer], number: usize) -> Option<usize>
     requires { AllPairs (λ a b. a.number < b.number) layers.now }
     ensures { IsLayerIfAny layers.now number result }
 {

@@ -1,65 +1,31 @@
-//! The grid on which nets are routed: its nodes and steps by the tracks of a design, and which of them are open to a net.
+//! The grid on which nets are routed: its slots, and the nodes in them and the steps between these, by the tracks of a design.
 //!
-//! What is open is read from a table (`SlotAccess`), which keeps three things for each slot of the grid: to which nets its
-//! node is open, the step along its layer to the next slot (to the east on a horizontal layer, to the north on a vertical
-//! one), and the step up. Each is an `Access` of `leg_wire`: metal there is admitted for every net, for one net only, or
-//! for none. A step to the west, to the south or down is kept with the slot that it goes to, since a step adds the same
-//! metal from either end. So a search reads one entry for each question, and never looks at a shape.
+//! Slots have numbers. What is open to a net in them is told by `leg_route_access`.
 //!
-//! That an entry suffices is a fact about spacing: metal may lie in a flat with one more shape if and only if it may lie in
-//! the flat and beside that shape alone (`access_beside`), and if two nets each have a shape there, neither may.
-//! `slots_beside` begins with a grid on which nothing lies and adds the shapes of the flat one by one; when a net gets a
-//! wire, its shapes are added in the same way. A shape that is the one before it again, as cuts of a via may be, is passed
-//! over. `add_shape` updates only the slots near the shape, on its layer and the ones next to it, to which the layer's
-//! spacing and the reach of vias and wires come; and of these it passes over each that no net, or only the shape's own, may
-//! use already.
-//!
-//! What the table means is one statement, `IsAccessTable` of `specs/Steps/AccessTable.antt`. The graph in which a search
-//! walks (`NetGraph`) knows only the table, and a law turns what the search answers into an open walk of the net
-//! (`searches_walk_as_numbers`). The graph's bound is by how many layers, rows and columns a slot lies outside of the
-//! nearest of some boxes, one for the slots of each shape; of each two, four, eight and so on of these the last one has the
-//! box around all of them, its hull, so that a look at a hull may pass over all its boxes.
+//! The bound of a search (`bound`) is by how many layers, rows and columns a slot lies outside of the nearest of some boxes, one
+//! for the slots of each shape (`BoxedSlots`); of each two, four, eight and so on of these the last one has the box around all of
+//! them, its hull, so that a look at a hull may pass over all its boxes.
 #![tactic(auto)]
 
-mod added;
 mod fault;
 mod grid;
-mod grid_walk;
 mod hulls;
 pub mod laws;
 mod layers;
 mod lines;
 mod neighbour;
-mod net_graph;
-mod open_node;
-mod open_step;
-mod patch;
-mod reach;
-mod sides;
 mod size;
 mod slot;
-mod slot_access;
 mod slot_box;
-mod slot_nodes;
 mod slots_in;
-mod spelling;
-mod strip;
 mod through;
 mod track_marks;
-mod via_patches;
 
-pub use added::{add_shape, add_shapes, slots_beside};
 pub use fault::GridFault;
 pub use grid::{Grid, grid_is_sound};
-pub use grid_walk::is_walk;
 pub use hulls::{Hull, add_hulls, hulls_of};
-pub use layers::RoutingLayer;
+pub use layers::{RoutingLayer, routing_layer_of};
 pub use leg_rules::{GREATEST_GRID, GRID_LIMIT, Node};
-pub use net_graph::NetGraph;
-pub use patch::square;
 pub use slot::Slot;
-pub use slot_access::SlotAccess;
 pub use slot_box::{BoxedSlots, SlotBox, bound, bound_of_box};
-pub use slot_nodes::nodes_of;
 pub use slots_in::{add_slots_in, places_within};
-pub use spelling::wires_of;

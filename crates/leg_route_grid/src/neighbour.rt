@@ -7,10 +7,10 @@ ghost use Rattle.leg_route_grid.specs.Steps.Grid.{IsDesignGrid, slot_total};
 ghost use Rattle.leg_route_grid.specs.Steps.NodeNumbers.{IsNeighbourAt};
 ghost use Rattle.leg_route_grid.specs.Steps.SlotSides.{RunsAt, IsNeighbourIfAny};
 
-use crate::grid::{Grid, grid_is_sound};
+use crate::grid::Grid;
 use crate::slot::Slot;
 use leg_lib_records::Direction;
-use leg_route_search::Side;
+use leg_rules::Side;
 use std::alloc::Allocator;
 
 /// Whether wires of routing layer k run in this direction.
@@ -161,37 +161,5 @@ impl<'g, 'a, A: Allocator + Copy> Grid<'g, 'a, A> {
             }
             None => None,
         }
-    }
-
-    /// The number of the node to the west of that of this number, where one lies there.
-    pub(crate) fn number_to_west(&self, number: u32) -> u32
-        requires within { number < slot_total self.now }
-        requires there { (to : ℕ) × IsNeighbourAt self.now West number to }
-        ensures { IsNeighbourAt self.now West number result }
-    {
-        grid_is_sound(self);
-        number - 1
-    }
-
-    /// The number of the node to the south of that of this number, where one lies there.
-    pub(crate) fn number_to_south(&self, number: u32) -> u32
-        requires within { number < slot_total self.now }
-        requires there { (to : ℕ) × IsNeighbourAt self.now South number to }
-        ensures { IsNeighbourAt self.now South number result }
-    {
-        grid_is_sound(self);
-        let row = self.columns();
-        (number as usize - row) as u32
-    }
-
-    /// The number of the node below that of this number, where one lies there.
-    pub(crate) fn number_below(&self, number: u32) -> u32
-        requires within { number < slot_total self.now }
-        requires there { (to : ℕ) × IsNeighbourAt self.now Below number to }
-        ensures { IsNeighbourAt self.now Below number result }
-    {
-        grid_is_sound(self);
-        let layer = self.rows() * self.columns();
-        (number as usize - layer) as u32
     }
 }

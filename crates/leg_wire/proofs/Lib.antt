@@ -11,8 +11,7 @@ mod WayUp
 mod SetUnions
 mod MergedLists
 -- Metal that may lie somewhere
-mod CleanMetal
-mod AccessBeside
+mod NearShapes
 -- Pieces that touch
 mod SinglePoints
 mod SeenPoints

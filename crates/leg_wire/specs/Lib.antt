@@ -1,4 +1,3 @@
-pub mod Access
 pub mod NetShapes
 pub mod PieceMarks
 pub mod Joins

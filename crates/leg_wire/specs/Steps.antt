@@ -1,6 +1,5 @@
 -- Intermediate state of the code, and what crates of one algorithm know of one another. No promise of a command rests on it.
 pub mod TooCloseRule
-pub mod LayerSpacing
 pub mod MeetingRule
 pub mod PieceMetal
 pub mod AddedFaults

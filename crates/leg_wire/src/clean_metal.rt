@@ -1,15 +1,13 @@
 //! Where metal of a net may lie.
 
-ghost use Rattle.std.specs.Prelude.{◌≡◌, ◌↔◌, ◌<◌, ◌^◌, map, All, IsTrue};
-ghost use Rattle.leg_lib_records.specs.Sound.{IsSoundLayer};
+ghost use Rattle.std.specs.Prelude.{◌≡◌, ◌↔◌, map, IsTrue};
 ghost use Rattle.leg_rules.specs.Spacing.Clean.{net_metal, IsClean};
-ghost use Rattle.leg_wire.specs.Steps.LayerSpacing.{spacing_at};
 
-use crate::too_close::are_closer_than;
 use leg_flat::{Flat, Owner, Shape};
 use leg_geom::Rect;
-use leg_lib_records::{Layer, Library};
+use leg_lib_records::Library;
 use leg_sweep::BinIndex;
+use leg_wire_spacing::{are_closer_than, spacing_at};
 use std::alloc::Allocator;
 
 /// The rectangle as metal of this net, as no piece of it and of no component.
@@ -22,18 +20,6 @@ fn net_metal(net: u32, layer: usize, rect: Rect) -> Shape
         owner: Owner::Net(net),
         component: None,
         piece: None,
-    }
-}
-
-/// The spacing of the layer of this number; 0 where there is none.
-pub(crate) fn spacing_at(layers: &[Layer<'_>], layer: usize) -> u64
-    requires { All IsSoundLayer layers.now }
-    ensures is { result ≡ spacing_at layers.now layer }
-    ensures within { result < 2 ^ 32 }
-{
-    match layers.get(layer) {
-        Some(layer) => layer.spacing.unsigned_abs(),
-        None => 0,
     }
 }
 

@@ -27,10 +27,8 @@
 //! more (`Groups`); so the pieces that have come to the first one are known without a look at the others.
 #![tactic(auto)]
 
-mod access;
 mod clean_metal;
 mod close_pairs;
-mod comparable;
 mod corner;
 mod groups;
 mod join;
@@ -49,9 +47,9 @@ mod spacing;
 mod stand_ins;
 mod too_close;
 
-pub use access::{Access, access_beside};
 pub use clean_metal::{clean, clean_indexed};
 pub use join::{groups_among, joined, joined_among};
+pub use leg_wire_spacing::{Access, access_beside};
 pub use net_joins::NetJoins;
 pub use net_shapes::numbers_by_net;
 pub use open_fault::open_faults;

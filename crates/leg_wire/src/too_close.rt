@@ -1,17 +1,14 @@
 //! Comparable shapes that share a point or are nearer than their layer's spacing.
 
-ghost use Rattle.std.specs.Prelude.{◌≡◌, ◌≤◌, ◌<◌, ◌+◌, ◌^◌, ◌↔◌, ◌⊎◌, length, min, All, IsTrue, unsigned_abs};
+ghost use Rattle.std.specs.Prelude.{◌≡◌, ◌≤◌, ◌+◌, length, min, All, unsigned_abs};
 ghost use Rattle.std.proofs.Common.{ap};
-ghost use Rattle.leg_geom.specs.Plane.{SharePoint};
 ghost use Rattle.leg_lib_records.specs.Sound.{IsSoundLayer};
-ghost use Rattle.leg_rules.specs.Spacing.Violations.{AreNearer};
-ghost use Rattle.leg_wire.specs.Steps.TooCloseRule.{AreCloserThan, AreClose, limit_at, AreClose-symmetric, AreClose-near, AreClose-near_on_layer};
+ghost use Rattle.leg_wire.specs.Steps.TooCloseRule.{AreClose, limit_at, AreClose-symmetric, AreClose-near, AreClose-near_on_layer};
 
-use crate::comparable::are_comparable;
 use leg_flat::Shape;
-use leg_geom::Rect;
 use leg_lib_records::Layer;
 use leg_sweep::{LayeredRule, PairRule};
+use leg_wire_spacing::are_closer_than;
 
 /// Holds of comparable shapes that share a point or lie nearer than the spacing of their layer, as far as that is within
 /// the reach.
@@ -62,30 +59,6 @@ fn greatest_spacing(layers: &[Layer<'_>]) -> u32
         greatest = greatest.max(layer.spacing as u32);
     }
     greatest
-}
-
-/// Whether the shapes are comparable, and share a point or lie nearer to one another than this.
-pub(crate) fn are_closer_than(distance: u64, a: &Shape, b: &Shape) -> bool
-    requires { distance < 2 ^ 32 }
-    ensures { IsTrue result ↔ AreCloserThan distance a.now b.now }
-{
-    are_comparable(a, b) && are_close(distance, &a.rect, &b.rect)
-}
-
-/// Whether the rectangles share a point, or some points of them lie nearer to one another than this.
-pub(crate) fn are_close(distance: u64, a: &Rect, b: &Rect) -> bool
-    requires { distance < 2 ^ 32 }
-    ensures { IsTrue result ↔ (SharePoint a.now b.now ⊎ AreNearer distance a.now b.now) }
-{
-    a.shares_point(b) || are_nearer(distance, a, b)
-}
-
-/// Whether some points of the rectangles lie nearer to one another than this.
-fn are_nearer(distance: u64, a: &Rect, b: &Rect) -> bool
-    requires { distance < 2 ^ 32 }
-    ensures { IsTrue result ↔ AreNearer distance a.now b.now }
-{
-    a.gap2(b) < i128::from(distance * distance)
 }
 
 impl<'l, 'a> PairRule for TooClose<'l, 'a> {

@@ -13,8 +13,8 @@ use Rattle.leg_route_grid.specs.Steps.NodesInRect.{LiesInRect}
 use Rattle.leg_rules.specs.Route.Meets.{MeetsJoined}
 use Rattle.leg_rules.specs.Route.OpenMetal.{IsOpenNode, IsOpenStep}
 use Rattle.leg_route_search.specs.Steps.Search.{IsRound}
-use Rattle.leg_route_grid.specs.declared.slot_access.SlotAccess.{SlotAccess}
-use Rattle.leg_route_grid.specs.Steps.AccessTable.{IsAccessTable}
+use Rattle.leg_route_access.specs.declared.slot_access.SlotAccess.{SlotAccess}
+use Rattle.leg_route_access.specs.Steps.AccessTable.{IsAccessTable}
 use Rattle.leg_route.specs.Steps.EndSlots.{MeetsPiece, IsFarSlot}
 use Rattle.leg_route.specs.Steps.NetEnds.{EndsModel, AreNetEnds}
 

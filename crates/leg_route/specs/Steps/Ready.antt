@@ -6,9 +6,9 @@ use Rattle.leg_rules.specs.Metal.Flat.{FlatModel}
 use Rattle.leg_wire.specs.NetShapes.{AreNumbersOf}
 use Rattle.leg_wire.specs.Joins.{JoinsModel, AreJoinsOf, HasOnePieceMore}
 use Rattle.leg_route_search.specs.declared.mark.Mark.{Mark}
-use Rattle.leg_route_grid.specs.declared.slot_access.SlotAccess.{SlotAccess}
+use Rattle.leg_route_access.specs.declared.slot_access.SlotAccess.{SlotAccess}
 use Rattle.leg_route_grid.specs.Steps.Grid.{GridModel, slot_total}
-use Rattle.leg_route_grid.specs.Steps.AccessTable.{IsAccessTable}
+use Rattle.leg_route_access.specs.Steps.AccessTable.{IsAccessTable}
 use Rattle.leg_route.specs.Steps.JoinedPart.{PartModel, IsJoinedPart, AreGivenTo}
 
 -- for each of the first `nets` nets the numbers of its shapes

@@ -1,14 +1,14 @@
 -- Shapes that a search with a reach finds too close. Its rule needs the two laws after the definition.
-use Rattle.std.proofs.Common.{◌≡◌, ◌*◌, ◌<◌, ◌≤◌, ◌⊎◌, ℕ, min, unsigned_abs, List, length, Option, None, Some, slice_get, inl, inr, refl, sym, arith}
+use Rattle.std.proofs.Common.{◌≡◌, ◌≤◌, ℕ, min, unsigned_abs, List, length, Option, None, Some, slice_get, inl, inr, refl, sym, arith}
 use Rattle.std.proofs.lemmas.Bool.{cases_lt}
 use Rattle.std.proofs.lemmas.Option.{slice_get_past}
-use Rattle.leg_geom.specs.Plane.{SharePoint}
-use Rattle.leg_geom.specs.Gap.{apart, x_gap, y_gap}
-use Rattle.leg_geom.proofs.Gaps.{SharePoint-symmetric, SharePoint-gaps, x_gap-least, y_gap-least, square_distance-symmetric, less_from_squares}
+use Rattle.leg_geom.specs.Gap.{x_gap, y_gap}
+use Rattle.leg_geom.proofs.Gaps.{SharePoint-symmetric, square_distance-symmetric}
 use Rattle.leg_lib_records.specs.declared.records.Layer.{Layer}
 use Rattle.leg_rules.specs.declared.shape.Shape.{Shape}
-use Rattle.leg_rules.specs.Spacing.Comparable.{AreComparable}
 use Rattle.leg_rules.specs.Spacing.Violations.{AreNearer}
+use Rattle.leg_wire_spacing.specs.Closer.{AreCloserThan}
+use Rattle.leg_wire_spacing.proofs.CloserGaps.{AreCloserThan-gaps}
 
 -- the spacing of the layer of this number, within the reach
 abbrev pub limit_at : List Layer → ℕ → ℕ → ℕ
@@ -16,11 +16,6 @@ limit_at layers reach number = within (slice_get layers number) where
   within : Option Layer → ℕ
   within None = 0
   within (Some layer) = min (unsigned_abs layer.spacing) reach
-
--- two comparable shapes share a point, or lie nearer than this
-pub record AreCloserThan (distance : ℕ) (a b : Shape) : Type 0 where
-  pub comparable : AreComparable a b
-  pub close : SharePoint a.rect b.rect ⊎ AreNearer distance a.rect b.rect
 
 -- two comparable shapes share a point, or lie nearer than their layer's spacing, as far as that is within the reach
 abbrev pub AreClose : List Layer → ℕ → Shape → Shape → Type 0
@@ -50,20 +45,7 @@ limit-within reach layers number = by (slice_get layers number) refl where
   by None is = rw is (omega arith)
   by (Some layer) is = rw is (omega arith)
 
--- shapes closer than a distance have both gaps within it
-pub AreCloserThan-gaps : (distance : ℕ) (a b : Shape) → AreCloserThan distance a b → (x_gap a.rect b.rect ≤ distance) × (y_gap a.rect b.rect ≤ distance)
-AreCloserThan-gaps distance a b h =
-    elim h.close [
-      | inl s ↦ let gaps = SharePoint-gaps a.rect b.rect s in (omega (arith, gaps.0), omega (arith, gaps.1))
-      | inr n ↦
-          let x = apart n.p.x n.q.x in
-          let y = apart n.p.y n.q.y in
-          let x_less : x < distance = less_from_squares x distance (y * y) n.near in
-          let y_less : y < distance = less_from_squares y distance (x * x) (omega (arith, n.near)) in
-          (omega (arith, x_less, x_gap-least a.rect b.rect n.p n.q n.in_a n.in_b), omega (arith, y_less, y_gap-least a.rect b.rect n.p n.q n.in_a n.in_b))
-    ]
-
--- and so have shapes that are too close, within the spacing of their layer
+-- shapes that are too close have both gaps within the spacing of their layer
 AreClose-near_limit : (layers : List Layer) (reach : ℕ) (a b : Shape) → AreClose layers reach a b
     → (x_gap a.rect b.rect ≤ limit_at layers reach a.layer) × (y_gap a.rect b.rect ≤ limit_at layers reach a.layer)
 AreClose-near_limit layers reach a b h = AreCloserThan-gaps (limit_at layers reach a.layer) a b h

@@ -1,6 +1,6 @@
 use Rattle.std.proofs.Common.{◌<◌, All, length, sym, arith}
 use Rattle.std.proofs.lemmas.List.Elements.{All-weaker}
-use Rattle.leg_route_grid.specs.Steps.AccessTable.{IsAccessTable}
+use Rattle.leg_route_access.specs.Steps.AccessTable.{IsAccessTable}
 use Rattle.leg_finish.specs.declared.groups.OpenNet.{OpenNet}
 use Rattle.leg_finish.specs.Steps.OpenNets.{IsOpenWith}
 use Rattle.leg_route_laws.proofs.Within.{numbers_within}

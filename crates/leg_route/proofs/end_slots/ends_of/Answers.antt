@@ -3,7 +3,7 @@ use Rattle.std.proofs.Common.{◌≡◌, ◌+◌, ◌++◌, ◌∷◌, [], ◌<�
 use Rattle.std.proofs.lemmas.List.{take_more, take_all}
 use Rattle.std.proofs.lemmas.List.Elements.{All-get_or}
 use Rattle.std.proofs.lemmas.Option.{slice_get_within, slice_get_read}
-use Rattle.leg_route_grid.specs.Steps.AccessToNet.{IsNodeAdmitted}
+use Rattle.leg_route_access.specs.Steps.AccessToNet.{IsNodeAdmitted}
 use Rattle.leg_route.proofs.EndSlots.{ends_more, ends_skip}
 use Rattle.leg_route.proofs.end_slots.ends_of.Goals as goal
 use Rattle.leg_route.proofs.end_slots.ends_of.Goals.{then-has_mark+in_ok-add_ends, else-has_mark}

@@ -1,6 +1,6 @@
 -- The ends in the shapes so far.
 use Rattle.std.proofs.Common.{take}
-use Rattle.leg_route_grid.specs.Steps.AccessToNet.{IsNodeAdmitted}
+use Rattle.leg_route_access.specs.Steps.AccessToNet.{IsNodeAdmitted}
 use Rattle.leg_route.specs.Steps.EndSlots.{IsApart, MeetsPiece, IsBoundFrom, AreEndSlots}
 use Rattle.leg_route.proofs.end_slots.ends_of.Given as goal
 

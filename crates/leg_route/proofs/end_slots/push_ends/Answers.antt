@@ -2,7 +2,7 @@
 use Rattle.std.proofs.Common.{◌≡◌, ◌+◌, ◌++◌, ◌∷◌, [], take, get_or, inl, arith}
 use Rattle.std.proofs.lemmas.List.{take_more, take_all}
 use Rattle.leg_sweep.proofs.Lists.{Contains-nil}
-use Rattle.leg_route_grid.specs.Steps.AccessToNet.{IsNodeAdmitted}
+use Rattle.leg_route_access.specs.Steps.AccessToNet.{IsNodeAdmitted}
 use Rattle.leg_route.proofs.EndSlots.{slot_listed, slot_passed}
 use Rattle.leg_route.proofs.end_slots.push_ends.Goals as goal
 use Rattle.leg_route.proofs.end_slots.push_ends.Goals.{then-not-passes_over+in_ok-push, else-not-passes_over}

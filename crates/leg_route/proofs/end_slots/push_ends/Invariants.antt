@@ -1,6 +1,6 @@
 -- The ends at the slots so far.
 use Rattle.std.proofs.Common.{take}
-use Rattle.leg_route_grid.specs.Steps.AccessToNet.{IsNodeAdmitted}
+use Rattle.leg_route_access.specs.Steps.AccessToNet.{IsNodeAdmitted}
 use Rattle.leg_route.specs.Steps.EndSlots.{HaveGotSlotEnds}
 use Rattle.leg_route.proofs.end_slots.push_ends.Given as goal
 

@@ -1,7 +1,7 @@
 use Rattle.std.proofs.Common.{sym, ◌∙◌, arith}
 use Rattle.leg_route.specs.Steps.EndSlots.{IsApart, MeetsPiece, IsBoundFrom, AreEndSlots}
-use Rattle.leg_route_grid.specs.Steps.AccessToNet.{IsNodeAdmitted}
-use Rattle.leg_route_grid.proofs.AccessSteps.{node_admitted}
+use Rattle.leg_route_access.specs.Steps.AccessToNet.{IsNodeAdmitted}
+use Rattle.leg_route_access.proofs.AccessSteps.{node_admitted}
 use Rattle.leg_route.specs.Steps.NetEnds.{ends_in}
 use Rattle.leg_route.proofs.EndSlots.{ends_within, first_joined}
 use Rattle.leg_route.proofs.NetEnds.{ends_kept_all}

@@ -2,8 +2,9 @@ use Rattle.std.proofs.Common.{◌≡◌, ◌↔◌, ℕ, [], map, All, Contains,
 use Rattle.std.proofs.lemmas.Bool.Decides.{nat_tests}
 use Rattle.std.proofs.lemmas.List.{length-map, nil_from_length}
 use Rattle.leg_route_grid.specs.Steps.Grid.{slot_total}
-use Rattle.leg_route_grid.specs.Steps.WalkBounds.{bound_at, IsNeighbourNear}
-use Rattle.leg_route_grid.specs.Steps.AccessToNet.{IsNodeAdmitted, IsStepAdmitted}
+use Rattle.leg_route_grid.specs.Steps.WalkBounds.{bound_at}
+use Rattle.leg_route_access.specs.Steps.NearNeighbours.{IsNeighbourNear}
+use Rattle.leg_route_access.specs.Steps.AccessToNet.{IsNodeAdmitted, IsStepAdmitted}
 use Rattle.leg_route_search.specs.Steps.SideSteps.{IsStep}
 use Rattle.leg_route_search.specs.Steps.Dive.{IsOrigin, AreFar}
 use Rattle.leg_route.specs.declared.end_slots.EndSlot.{EndSlot}

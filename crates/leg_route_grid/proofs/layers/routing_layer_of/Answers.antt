@@ -6,7 +6,7 @@ use Rattle.std.proofs.lemmas.List.Sorted.{IsPartitionPoint-from_clause}
 use Rattle.std.proofs.lemmas.Option.{slice_get_within, get_or_from_slice_get}
 use Rattle.leg_lib_records.specs.declared.records.Direction.TheVariants.{Horizontal}
 use Rattle.leg_route_grid.specs.declared.layers.RoutingLayer.{RoutingLayer}
-use Rattle.leg_route_grid.proofs.NearLayers.{below_first}
+use Rattle.leg_route_grid.proofs.LayersBelow.{below_first}
 use Rattle.leg_route_grid.proofs.SlotRanges.{no_layer}
 use Rattle.leg_route_grid.proofs.layers.routing_layer_of.Goals as goal
 

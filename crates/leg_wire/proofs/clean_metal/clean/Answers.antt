@@ -5,9 +5,9 @@ use Rattle.std.proofs.lemmas.List.{take_all, take_more}
 use Rattle.std.proofs.lemmas.List.Elements.{All-push, All-contains}
 use Rattle.leg_rules.specs.declared.shape.Shape.{Shape}
 use Rattle.leg_rules.specs.Spacing.Clean.{net_metal}
-use Rattle.leg_wire.specs.Steps.TooCloseRule.{AreCloserThan}
-use Rattle.leg_wire.specs.Steps.LayerSpacing.{spacing_at}
-use Rattle.leg_wire.proofs.CleanMetal.{none_close, is_clean}
+use Rattle.leg_wire_spacing.specs.Closer.{AreCloserThan}
+use Rattle.leg_wire_spacing.specs.LayerSpacing.{spacing_at}
+use Rattle.leg_wire_spacing.proofs.CleanMetal.{none_close, is_clean}
 use Rattle.leg_wire.proofs.clean_metal.clean.Goals as goal
 
 pub returns-then-are_closer_than : goal.returns-then-are_closer_than

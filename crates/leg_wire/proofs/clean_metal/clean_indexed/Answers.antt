@@ -6,9 +6,10 @@ use Rattle.std.proofs.lemmas.List.Elements.{All-push}
 use Rattle.std.proofs.lemmas.Option.{slice_get_read}
 use Rattle.leg_sweep.specs.Near.{AreNear}
 use Rattle.leg_rules.specs.Spacing.Clean.{net_metal}
-use Rattle.leg_wire.specs.Steps.LayerSpacing.{spacing_at}
-use Rattle.leg_wire.specs.Steps.TooCloseRule.{AreCloserThan}
-use Rattle.leg_wire.proofs.CleanMetal.{rects_of, IsFarAt, next_within, far_at, far_from_all, none_close, is_clean}
+use Rattle.leg_wire_spacing.specs.LayerSpacing.{spacing_at}
+use Rattle.leg_wire_spacing.specs.Closer.{AreCloserThan}
+use Rattle.leg_wire_spacing.proofs.CleanMetal.{none_close, is_clean}
+use Rattle.leg_wire.proofs.NearShapes.{rects_of, IsFarAt, next_within, far_at, far_from_all}
 use Rattle.leg_wire.proofs.clean_metal.clean_indexed.Goals as goal
 
 pub bounds-shapes-number : goal.bounds-shapes-number

@@ -1,6 +1,6 @@
 -- None of the near shapes so far is close, and what is left is near.
 use Rattle.std.proofs.Common.{◌≡◌, ◌++◌, All}
-use Rattle.leg_wire.proofs.CleanMetal.{IsFarAt}
+use Rattle.leg_wire.proofs.NearShapes.{IsFarAt}
 use Rattle.leg_wire.proofs.clean_metal.clean_indexed.Given as goal
 
 abbrev pub invariant-loop-number : goal.invariant-loop-number

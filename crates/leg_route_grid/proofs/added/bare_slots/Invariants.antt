@@ -1,5 +1,0 @@
-use Rattle.leg_route_grid.proofs.BareSlots.{AreToldBelow}
-use Rattle.leg_route_grid.proofs.added.bare_slots.Given as goal
-
-abbrev pub invariant-loop-number : goal.invariant-loop-number
-invariant-loop-number g l = AreToldBelow l.grid l.number l.slots.items

@@ -1,6 +1,0 @@
--- The numbers up to k are those of a walk.
-use Rattle.leg_route_grid.proofs.GridWalks.{IsWalkUpto}
-use Rattle.leg_route_grid.proofs.grid_walk.is_walk.Given as goal
-
-abbrev pub invariant-loop-k : goal.invariant-loop-k
-invariant-loop-k g l = IsWalkUpto l.grid l.numbers l.k

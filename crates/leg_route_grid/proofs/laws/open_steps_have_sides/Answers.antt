@@ -1,5 +1,0 @@
-use Rattle.leg_route_grid.proofs.OpenSteps.{steps_have_sides}
-use Rattle.leg_route_grid.proofs.laws.open_steps_have_sides.Goals as goal
-
-pub returns : goal.returns
-returns c grid flat net m n is_grid = steps_have_sides grid flat net m n is_grid

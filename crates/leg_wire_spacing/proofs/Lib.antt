@@ -1,0 +1,3 @@
+pub mod CloserGaps
+pub mod CleanMetal
+mod AccessBeside

@@ -1,0 +1,3 @@
+pub mod LayerSpacing
+pub mod Closer
+pub mod Access
