@@ -244,7 +244,8 @@ class Scope:
                     self.add(path.split('.'), name, alias, '{' in item.head)
 
     def add(self, path, name, alias, is_list):
-        if path[0] != 'Rattle' or len(path) < 3 or path[2] != 'specs' or 'declared' in path + [name]:
+        # (the check makes declared/ and contracts/ of the code: no file of the repository has what stands there)
+        if path[0] != 'Rattle' or len(path) < 3 or path[2] != 'specs' or {'declared', 'contracts'} & {*path, name}:
             return
         folder = os.path.join('crates', path[1], *path[2:])
         if is_list:

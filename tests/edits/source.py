@@ -68,7 +68,9 @@ def owner_of(kind, rest):
     if not is_for:
         return plain(rest)[0]
     name, arguments = plain(trait, parameters)
-    return plain(of)[0] + name + arguments
+    of = plain(of)[0]
+    # (an impl for each type that meets a bound is for any type)
+    return ('Any' if of in parameters else of) + name + arguments
 
 
 def end_of(lines, at, indent):

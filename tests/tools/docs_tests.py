@@ -7,6 +7,7 @@ import stat
 import sys
 import tempfile
 import unittest
+from pathlib import Path
 from unittest import mock
 
 sys.path.insert(0, os.path.dirname(os.path.abspath(__file__)))
@@ -14,6 +15,7 @@ sys.path.insert(0, os.path.dirname(os.path.abspath(__file__)))
 from doctored import Doctored, script
 
 docs = script('tests/docs/run')
+record = docs.record
 PROOFS = 'docs/PROOFS.md'
 
 
@@ -297,6 +299,34 @@ class GateTests(DoctoredTests):
         self.assertEqual(printed(docs.check_gate, repository) - before,
                          {'tests/edits/gate: there is no edit leg_geom/none',
                           'tests/edits/gate: leg_geom/none names rect::Rect::gap, which is no function of leg_geom'})
+
+
+class RecordTests(DoctoredTests):
+    """tests/edits/tried."""
+    crates = ('leg_geom', 'leg_sweep')
+    parts = ('tests/edits/leg_geom', 'tests/edits/leg_sweep')
+
+    def test_a_record_of_other_sources_or_edits_is_old_and_no_failure(self):
+        top, file, edit = Path(self.copy.top), 'crates/leg_geom/src/rect.rt', 'tests/edits/leg_geom/square_gap_along_x_only.edit'
+        days = {'leg_geom': '2031-02-03', 'leg_sweep': '2031-02-04'}
+        with mock.patch.object(record, 'TOP', top):
+            record.write([record.Entry(it, record.sum_of(it, top), day, 3, 2, 1) for it, day in days.items()], days)
+        self.assertEqual(self.told(), ['0 passed, 0 failed'])
+        old = 'old: the wrong bodies of leg_geom were all tried on 2031-02-03, and its sources or they have changed since'
+        for path in (file, edit):
+            text = self.copy.read(path)
+            self.copy.write(path, f'{text}\n')
+            self.assertEqual(self.told(), [old, '0 passed, 0 failed'])
+            self.copy.write(path, text)
+            self.assertEqual(self.told(), ['0 passed, 0 failed'])
+        self.copy.write('crates/leg_geom/proofs/New.antt', ADDED)
+        self.assertEqual(self.told(), [old, '0 passed, 0 failed'])
+
+    def told(self):
+        """Returns what the script prints of the copy where nothing else is looked at; it must not fail."""
+        with mock.patch.object(docs, 'CHECKS', ()), contextlib.redirect_stdout(io.StringIO()) as told:
+            self.assertEqual(docs.main(['--top', self.copy.top]), 0)
+        return told.getvalue().splitlines()
 
 
 if __name__ == '__main__':

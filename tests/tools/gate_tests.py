@@ -222,6 +222,52 @@ class GateTests(Room):
         status, lines = self.run_gate()
         self.assertEqual((status, lines[-1].split(', ')[1]), (1, '1 failed'), lines)
 
+    # What ends the shell that tries the list, and the status that it has then.
+    ENDS = (('exit 0', 0), ('exit 3', 3), ("sh -c 'kill -9 $PPID'", 137))
+    # Ends when the wrong bodies of the first crate are being tried.
+    RT_IN_PARTS = (f'{RT}rm -f "$ROOM/begun"\necho "rt: low proved"\n'
+                   f'for i in 1 2 3 4 5 6 7 8; do [ -e "$ROOM/begun" ] || sleep 0.5; done\n{PASSED}')
+
+    def check_list_fails(self, line, ends, why):
+        """Checks that a gate with this further line behind this one of its script fails, and says this of the list of wrong bodies."""
+        self.copy('test')
+        with open(os.path.join(self.room, 'test'), encoding='utf-8') as file:
+            text = file.read()
+        self.assertEqual(text.count(f'{line}\n'), 1)
+        self.script('test', text.replace(f'{line}\n', f'{line}\n{ends}\n'))
+        status, lines = self.run_gate()
+        self.assertNotEqual(status, 0)
+        self.assertIn(f'FAILED: the list of wrong bodies: {why}', lines)
+        self.assertRegex(lines[-1], r'^\d+ passed, 1 failed$')
+
+    def test_a_list_of_wrong_bodies_that_is_not_begun_is_a_failure(self):
+        for ends, status in self.ENDS:
+            with self.subTest(ends=ends):
+                self.check_list_fails('try_wrong_bodies() {', ends, f'status {status}, and not tried: all')
+
+    def test_a_list_of_wrong_bodies_that_is_not_tried_to_its_end_is_a_failure(self):
+        self.file('tests/edits/gate', '# words\nlow/some f\n# others\nhigh/other g::h\nhigh_up/other i\n')
+        self.script('commands/rt', self.RT_IN_PARTS)
+        self.script('tests/edits/run', SUITE + 'touch "$ROOM/begun"\n')
+        self.assertEqual(self.run_gate()[0], 0)
+        # (the first of its parts is tried to its end)
+        for ends, status in self.ENDS:
+            with self.subTest(ends=ends):
+                self.check_list_fails('        part=$((part + 1))', f'wait\n{ends}', f'status {status}, and not tried: high high_up')
+
+    def test_proofs_that_are_killed_with_the_shell_around_them_are_a_failure(self):
+        self.file('tests/edits/gate', '# words\nlow/some f\n# others\nhigh/other g::h\n')
+        self.script('commands/rt', f'{RT}kill -9 $PPID\n')
+        self.check_fails('rt ci', "status unknown, and last ''")
+
+    def test_a_part_of_the_list_that_is_killed_is_a_failure(self):
+        self.file('tests/edits/gate', '# words\nlow/some f\n# others\nhigh/other g::h\n')
+        self.script('commands/rt', self.RT_IN_PARTS)
+        for suite in ('low', 'high'):
+            with self.subTest(suite=suite):
+                self.script('tests/edits/run', SUITE + f'touch "$ROOM/begun"\ncase "$*" in *{suite}*) kill -9 $PPID ;; esac\n')
+                self.check_fails(f'tests/edits/run --gate {suite}', "status unknown, and last '3 passed, 0 failed'")
+
     def test_the_program_that_it_proved_is_not_built_again(self):
         self.run_gate()
         called = self.started('lefdef', 'check')

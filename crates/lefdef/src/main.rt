@@ -14,7 +14,7 @@ use leg_app::{
     STREAM_LIMIT, Side, Status, asked_by, read_all, run_compare, run_explained, run_help, run_out,
     run_stream_explained,
 };
-use leg_app_message::{NotingWriter, Paths, Texts, message, stream_message};
+use leg_app_message::{NotingWriter, Paths, Texts, message, order_message, stream_message};
 use rounds::Rounds;
 use std::alloc::{AllocError, Allocator, Global};
 use std::fs::File;
@@ -172,13 +172,19 @@ fn on_two_texts<R: Runtime + AllocGlobal, A: Allocator>(
     let mut out = NotingWriter::new(io::writer(rt));
     let ran = run_compare(rt.alloc(), lefs, before, after, &mut out);
     let ended = written(ran, out.error())?;
-    if let Some(stopped) = &ended.reason {
-        let (path, def) = match stopped.side {
-            Side::Before => (line.before, before),
-            Side::After => (line.after, after),
-        };
-        let message = message_on(rt, line.lefs, path, lefs, def, &stopped.reason);
-        explain(rt, message);
+    match &ended.reason {
+        Some(stopped) => {
+            let (path, def) = match stopped.side {
+                Side::Before => (line.before, before),
+                Side::After => (line.after, after),
+            };
+            let message = message_on(rt, line.lefs, path, lefs, def, &stopped.reason);
+            explain(rt, message);
+        }
+        None => {
+            let (first, second) = (line.before.as_bytes(), line.after.as_bytes());
+            explain(rt, order_message(rt.alloc(), first, second, ended.order));
+        }
     }
     Ok(ended.status)
 }

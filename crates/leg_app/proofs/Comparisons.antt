@@ -1,5 +1,7 @@
 -- What is answered where two DEFs are compared.
-use Rattle.std.proofs.Common.{◌≡◌, ℕ, List, ◌⊎◌, inl, inr, refl, sym, ◌∙◌, subst}
+use Rattle.std.proofs.Common.{◌≡◌, ◌≢◌, ◌↔◌, ℕ, Bool, false, List, ◌⊎◌, inl, inr, refl, sym, ◌∙◌, subst}
+use Rattle.std.proofs.lemmas.Bool.{false≢true}
+use Rattle.std.specs.Prelude.{IsTrue}
 use Rattle.leg_lex.specs.Word.{texts}
 use Rattle.leg_lex.specs.Denotes.{Denotes}
 use Rattle.leg_lex.proofs.Denotations.{says_one}
@@ -7,18 +9,23 @@ use Rattle.leg_lib_records.specs.Records.{LibraryModel}
 use Rattle.leg_design_records.specs.Records.{DesignModel}
 use Rattle.leg_grammar.specs.Def.Header.{units_in}
 use Rattle.leg_grammar.specs.Def.Form.{design_in}
+use Rattle.leg_rules.specs.declared.difference.Section.{Section}
 use Rattle.leg_rules.specs.declared.difference.Difference.{Difference}
 use Rattle.leg_rules.specs.declared.difference.Verdict.{Verdict}
 use Rattle.leg_rules.specs.declared.difference.Verdict.TheVariants.{Same, Places, Wires, PlacesAndWires, Differs}
+use Rattle.leg_rules.specs.declared.other_order.OtherOrder.{OtherOrder}
+use Rattle.leg_rules.specs.Compare.EntryOrder.{HaveOtherOrder}
 use Rattle.leg_rules.specs.Compare.Order.{AreAllDifferences}
 use Rattle.leg_rules.specs.Compare.Verdicts.{IsVerdict}
+use Rattle.leg_app.specs.declared.status.Status.{Status}
+use Rattle.leg_app.specs.declared.status.Status.TheVariants.{Success}
 use Rattle.leg_app.specs.declared.compare_end.Side.{Side}
 use Rattle.leg_app.specs.declared.compare_end.Side.TheVariants.{Before, After}
 use Rattle.leg_grammar.specs.Texts.{DenoteLibraryFor, DenoteDesign, DenoteNothing}
 use Rattle.leg_app.specs.Steps.OneLibrary.{DenotesJust}
 use Rattle.leg_output.specs.Commands.Compare.{comparison_text}
 use Rattle.leg_app.specs.Reason.{HasNoReason}
-use Rattle.leg_app.specs.Comparison.{status_of, def_of, Compares, IsComparison}
+use Rattle.leg_app.specs.Comparison.{status_of, def_of, Compares, IsComparison, DenoteOtherOrder, TellsOrder}
 use Rattle.leg_app.proofs.Denotations.{design_has_library}
 
 -- a library is denoted with another DEF too, if that has its units
@@ -93,3 +100,44 @@ module _ (lefs : List (List ℕ)) (before after : List ℕ) (library : LibraryMo
   compared (Wires growths) judged is = inl (compares (Wires growths) judged is)
   compared (PlacesAndWires moves growths) judged is = inl (compares (PlacesAndWires moves growths) judged is)
   compared (Differs count) judged is = inl (compares (Differs count) judged is)
+
+-- under the one library that is denoted the DEF denotes no other design
+only_said : (lefs : List (List ℕ)) (def : List ℕ) (library other : LibraryModel) (design said : DesignModel) → DenotesJust lefs def library
+    → Denotes (design_in library) def design → DenoteDesign lefs def other said → said ≡ design
+only_said lefs def library other design said just says say =
+    says_one (design_in library) def said design (subst (λ l. Denotes (design_in l) def said) (just.only other say.under) say.said) says
+
+module _ (lefs : List (List ℕ)) (before after : List ℕ) (library : LibraryModel) (first second : DesignModel)
+    (just_before : DenotesJust lefs before library) (says_first : Denotes (design_in library) before first)
+    (just_after : DenotesJust lefs after library) (says_second : Denotes (design_in library) after second) where
+  -- another order of the designs is one of those that the texts denote
+  same_order : (section : Section) → DenoteOtherOrder section lefs before after → HaveOtherOrder section first second
+  same_order section told =
+      subst (λ d. HaveOtherOrder section first d) (only_said lefs after library told.library second told.second just_after says_second told.say_second)
+      (subst (λ d. HaveOtherOrder section d told.second) (only_said lefs before library told.library first told.first just_before says_first told.say_first)
+      told.order)
+
+  pub tells_of : (section : Section) (status : Status) (told : Bool) → (IsTrue told ↔ ((status ≡ Success) × HaveOtherOrder section first second))
+      → IsTrue told ↔ ((status ≡ Success) × DenoteOtherOrder section lefs before after)
+  tells_of section status told just = (
+    λ is. (
+      (just.0 is).0,
+      record {
+        library = library;
+        first = first;
+        second = second;
+        say_first = say_design lefs before library first just_before says_first;
+        say_second = say_design lefs after library second just_after says_second;
+        order = (just.0 is).1;
+      },
+    ),
+    λ both. just.1 (both.0, same_order section both.1),
+  )
+
+-- where something differs, or nothing is compared, no other order is told
+pub tells_none : (lefs : List (List ℕ)) (before after : List ℕ) (status : Status) → status ≢ Success
+    → TellsOrder lefs before after status (record { components = false; nets = false })
+tells_none lefs before after status other = record {
+  components = (λ is. absurd (false≢true is), λ both. absurd (other both.0));
+  nets = (λ is. absurd (false≢true is), λ both. absurd (other both.0));
+}

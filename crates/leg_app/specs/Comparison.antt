@@ -1,12 +1,16 @@
 -- What `compare` may answer to two DEFs after the same LEFs (lefdef's own rules): its text, the status that goes with it, and the reason
 -- where the DEFs are not compared.
-use Rattle.std.specs.Prelude.{◌≡◌, ◌≢◌, ℕ, ◌+◌, List, ◌⊎◌, Option, None, Some}
+use Rattle.std.specs.Prelude.{◌≡◌, ◌≢◌, ◌↔◌, ℕ, ◌+◌, List, ◌⊎◌, Option, None, Some, IsTrue}
 use Rattle.leg_lex.specs.declared.read_fault.FaultKind.TheVariants as kinds
 use Rattle.leg_lib_records.specs.Records.{LibraryModel}
 use Rattle.leg_design_records.specs.Records.{DesignModel}
+use Rattle.leg_rules.specs.declared.difference.Section.{Section}
+use Rattle.leg_rules.specs.declared.difference.Section.TheVariants.{Components, Nets}
 use Rattle.leg_rules.specs.declared.difference.Difference.{Difference}
 use Rattle.leg_rules.specs.declared.difference.Verdict.{Verdict}
 use Rattle.leg_rules.specs.declared.difference.Verdict.TheVariants.{Same, Places, Wires, PlacesAndWires, Differs}
+use Rattle.leg_rules.specs.declared.other_order.OtherOrder.{OtherOrder}
+use Rattle.leg_rules.specs.Compare.EntryOrder.{HaveOtherOrder}
 use Rattle.leg_rules.specs.Compare.Order.{AreAllDifferences}
 use Rattle.leg_rules.specs.Compare.Verdicts.{IsVerdict}
 use Rattle.leg_app_reason.specs.declared.reason.Reason.{Reason}
@@ -104,8 +108,23 @@ ExplainsComparison lefs before after status None text = HasNoReason status
 ExplainsComparison lefs before after status (Some reason) text =
     HasReason status × ReportsOf reason.side reason.reason text × IsSoOf lefs (def_of reason.side before after) reason.reason
 
--- The text and the status are an answer of `compare` to these texts, and this is its reason.
-pub record IsComparisonExplained {A : Type 0} (lefs : List (List ℕ)) (before after : List ℕ) (reason : Option (ComparisonReason A)) (status : Status)
-    (text : List ℕ) : Type 0 where
+-- The DEFs denote designs of one library, and in these the entries of the section stand in another order.
+pub record DenoteOtherOrder (section : Section) (lefs : List (List ℕ)) (before after : List ℕ) : Type 0 where
+  pub library : LibraryModel
+  pub first : DesignModel
+  pub second : DesignModel
+  pub say_first : DenoteDesign lefs before library first
+  pub say_second : DenoteDesign lefs after library second
+  pub order : HaveOtherOrder section first second
+
+-- Of COMPONENTS, and of NETS, another order is told if and only if nothing differs and the entries stand in another order.
+pub record TellsOrder (lefs : List (List ℕ)) (before after : List ℕ) (status : Status) (order : OtherOrder) : Type 0 where
+  pub components : IsTrue order.components ↔ ((status ≡ Success) × DenoteOtherOrder Components lefs before after)
+  pub nets : IsTrue order.nets ↔ ((status ≡ Success) × DenoteOtherOrder Nets lefs before after)
+
+-- The text and the status are an answer of `compare` to these texts, this is its reason, and this is told of the order of entries.
+pub record IsComparisonExplained {A : Type 0} (lefs : List (List ℕ)) (before after : List ℕ) (reason : Option (ComparisonReason A)) (order : OtherOrder)
+    (status : Status) (text : List ℕ) : Type 0 where
   pub answer : IsComparison lefs before after status text
   pub explains : ExplainsComparison lefs before after status reason text
+  pub tells : TellsOrder lefs before after status order

@@ -15,18 +15,19 @@ use Rattle.leg_rules.specs.Route.SameButForWires.{IsSameButForWires}
 use Rattle.leg_rules.specs.Legal.{IsCleanIn}
 use Rattle.leg_rules.specs.Finish.Reach.{IsFirstUnreachable}
 use Rattle.leg_rules.specs.Finish.Refusal.{ComesToSearch, AreUnfinished}
-use Rattle.leg_rules.specs.Finish.Wires.{AddsToOpenNets, HaveTotals}
+use Rattle.leg_rules.specs.Finish.Wires.{AddsToOpenNets, AddsWalks, HaveTotals}
 use Rattle.leg_output.specs.Commands.Check.{too_many_text}
 use Rattle.leg_output.specs.Commands.Route.{not_clean_text, grid_too_large_text}
 use Rattle.leg_output.specs.Commands.Finish.{finished_text, unreachable_text, unfinished_text}
 
 -- The second design is the first one, whose grid is not beyond the limit, finished: legal, and the same but for wires that entries of
--- NETS got after their own, each only if its net was open. It is well-formed, and its library sound.
+-- NETS got after their own, each only if its net was open: wires of walks over the grid. It is well-formed, and its library sound.
 pub record Finishes (before after : DesignModel) : Type 0 where
   pub fits : ¬ IsGridBeyond GREATEST_GRID before
   pub legal : IsLegal after
   pub same : IsSameButForWires before after
   pub open_only : AddsToOpenNets before after
+  pub walks : AddsWalks before after
   pub proper : IsWellFormed after
   pub sound : IsSound after.library
 

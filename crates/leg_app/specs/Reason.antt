@@ -10,7 +10,10 @@ use Rattle.leg_design_records.specs.Records.{DesignModel}
 use Rattle.leg_grammar.specs.Def.Header.{units_in}
 use Rattle.leg_rules.specs.Metal.Flat.{FlatModel, IsFlatOf}
 use Rattle.leg_rules.specs.declared.grid_limits.TheConstants.{GRID_LIMIT, GREATEST_GRID}
-use Rattle.leg_rules.specs.Finish.Reach.{IsFirstOfNetIfAny}
+use Rattle.leg_rules.specs.Route.Refusals.{IsUnroutable}
+use Rattle.leg_rules.specs.Route.Refusal.{ComesToRun}
+use Rattle.leg_rules.specs.Finish.Reach.{IsFirstOfNetIfAny, IsFirstUnreachable}
+use Rattle.leg_rules.specs.Finish.Refusal.{ComesToSearch}
 use Rattle.leg_output.specs.Names.{net_name, piece_text}
 use Rattle.leg_rules.specs.Names.{name_by}
 use Rattle.leg_output.specs.Lines.{piece_at}
@@ -48,15 +51,32 @@ ReportsReason (Unroutable net piece) text = text ≡ codes "UNROUTABLE " ++ net 
 ReportsReason (Unreachable net piece) text = text ≡ codes "UNREACHABLE " ++ net ++ codes " " ++ piece ++ codes "\n"
 ReportsReason Unfinished text = EndsIn (codes "unfinished ") text
 
--- the net of this name, and the first piece of it that cannot be reached whatever other nets do; none where each can be
-pub record IsCutOff (design : DesignModel) (name : List ℕ) (piece : Option (List ℕ)) : Type 0 where
-  pub net : ℕ
+-- the first piece of the net of this number that cannot be reached whatever other nets do; none where each can be
+pub record IsCutOff (design : DesignModel) (net : ℕ) (piece : Option (List ℕ)) : Type 0 where
   pub flat : FlatModel
   pub first : Option ℕ
-  pub named : name ≡ net_name design net
   pub is_flat : IsFlatOf design flat
   pub is_first : IsFirstOfNetIfAny design flat net first
   pub is : piece ≡ option_map (λ k. name_by (piece_text design) (piece_at (Some flat) net k)) first
+
+-- the net at whose turn no open walk leads on has this name, and this piece of that very net is cut off, if one is
+pub record IsUnroutableNet (design : DesignModel) (name : List ℕ) (piece : Option (List ℕ)) : Type 0 where
+  pub net : ℕ
+  pub flat : FlatModel
+  pub comes : ComesToRun design flat
+  pub unroutable : IsUnroutable design flat net
+  pub named : name ≡ net_name design net
+  pub cut_off : IsCutOff design net piece
+
+-- the first piece of all nets that cannot be reached whatever other nets do has the second name, and its net the first one
+pub record IsUnreachablePiece (design : DesignModel) (name piece : List ℕ) : Type 0 where
+  pub net : ℕ
+  pub number : ℕ
+  pub flat : FlatModel
+  pub comes : ComesToSearch design flat
+  pub is_first : IsFirstUnreachable design flat net number
+  pub named : name ≡ net_name design net
+  pub is : piece ≡ name_by (piece_text design) (piece_at (Some flat) net number)
 
 -- What the reason says besides is so, where the design that is to be routed is such a one, at this stage, under this limit of grids. It
 -- is none of the reasons for which texts are not read.
@@ -70,8 +90,8 @@ IsSoAtStage stage limit IsRouted (NoSite component) = Unit {0}
 IsSoAtStage stage limit IsRouted (NoRoom component) = Unit {0}
 IsSoAtStage stage limit IsRouted (NotClean at) = at ≡ stage
 IsSoAtStage stage limit IsRouted (GridTooLarge most) = most ≡ limit
-IsSoAtStage stage limit IsRouted (Unroutable net piece) = (design : DesignModel) × IsRouted design × IsCutOff design net piece
-IsSoAtStage stage limit IsRouted (Unreachable net piece) = Unit {0}
+IsSoAtStage stage limit IsRouted (Unroutable net piece) = (design : DesignModel) × IsRouted design × IsUnroutableNet design net piece
+IsSoAtStage stage limit IsRouted (Unreachable net piece) = (design : DesignModel) × IsRouted design × IsUnreachablePiece design net piece
 IsSoAtStage stage limit IsRouted Unfinished = Unit {0}
 
 -- which design a command routes

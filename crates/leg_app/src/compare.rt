@@ -1,13 +1,15 @@
 //! What differs between two DEFs after the same LEFs.
 
-ghost use Rattle.std.specs.Prelude.{◌≡◌, ◌≢◌, ℕ, List, map, None, Some, IfOk, IfErr};
+ghost use Rattle.std.specs.Prelude.{◌≡◌, ◌≢◌, ◌↔◌, ℕ, false, List, map, None, Some, IsTrue, IfOk, IfErr};
 ghost use Rattle.leg_lex.specs.Denotes.{Denotes};
 ghost use Rattle.leg_lex.specs.declared.read_fault.FaultKind.TheVariants as kinds;
 ghost use Rattle.leg_lib_records.specs.Records.{LibraryModel};
 ghost use Rattle.leg_design_records.specs.Records.{DesignModel};
 ghost use Rattle.leg_grammar.specs.Def.Header.{units_in};
 ghost use Rattle.leg_grammar.specs.Def.Form.{design_in};
-ghost use Rattle.leg_app.specs.declared.status.Status.TheVariants.{Refused};
+ghost use Rattle.leg_rules.specs.declared.difference.Section.TheVariants.{Components, Nets};
+ghost use Rattle.leg_rules.specs.Compare.EntryOrder.{HaveOtherOrder};
+ghost use Rattle.leg_app.specs.declared.status.Status.TheVariants.{Success, Refused};
 ghost use Rattle.leg_grammar.specs.Texts.{DenoteDesign, DenoteNothing};
 ghost use Rattle.leg_app.specs.Refusal.{Refuses, HasUnitsOf};
 ghost use Rattle.leg_app.specs.declared.text_fault.TextFault.TheVariants.{Read};
@@ -17,13 +19,13 @@ ghost use Rattle.leg_app.specs.Steps.OneLibrary.{DenotesJust};
 ghost use Rattle.leg_app.specs.Steps.FaultReasons.{IsOfMaster};
 
 use crate::answer::needed_master;
-use crate::compare_end::{ComparisonAnswer, ComparisonReason, Side};
+use crate::compare_end::{ComparisonAnswer, ComparisonReason, Side, one_order};
 use crate::status::Status;
 use crate::text_fault::TextFault;
 use crate::texts::{behind_lefs, library_for};
 use leg_app_lines::{comparison_text, refused_line, scale_text};
 use leg_app_reason::Reason;
-use leg_compare::{Verdict, differences, verdict_of};
+use leg_compare::{OtherOrder, Verdict, differences, other_order, verdict_of};
 use leg_design::DefText;
 use leg_design_records::Design;
 use leg_lex::{FaultKind, ReadFault};
@@ -41,7 +43,7 @@ pub fn compare_texts<'a, A: Allocator + Copy>(
     after: &[u8],
 ) -> Result<ComparisonAnswer<'a, A>, AllocError>
     ensures { IfOk result (λ answer. IsComparisonExplained (map (λ t. t.now) lefs.now) before.now after.now
-        answer.reason answer.status answer.text.items) }
+        answer.reason answer.order answer.status answer.text.items) }
 {
     match library_for(alloc, lefs, before) {
         Ok((library, text)) => library_comparison(alloc, lefs, &library, text, after),
@@ -58,7 +60,7 @@ fn library_comparison<'a, A: Allocator + Copy>(
     after: &[u8],
 ) -> Result<ComparisonAnswer<'a, A>, AllocError>
     ensures { IfOk result (λ answer. DenotesJust (map (λ t. t.now) lefs.now) before.entry library.now
-        → IsComparisonExplained (map (λ t. t.now) lefs.now) before.entry after.now answer.reason answer.status answer.text.items) }
+        → IsComparisonExplained (map (λ t. t.now) lefs.now) before.entry after.now answer.reason answer.order answer.status answer.text.items) }
 {
     match before.design(alloc, library) {
         Ok(first) => design_comparison(alloc, lefs, library, &first, after),
@@ -77,7 +79,7 @@ fn design_comparison<'a, A: Allocator + Copy>(
     requires { first.now.library ≡ library.now }
     ensures { IfOk result (λ answer. (before : List ℕ) → DenotesJust (map (λ t. t.now) lefs.now) before library.now
         → Denotes (design_in library.now) before first.now
-        → IsComparisonExplained (map (λ t. t.now) lefs.now) before after.now answer.reason answer.status answer.text.items) }
+        → IsComparisonExplained (map (λ t. t.now) lefs.now) before after.now answer.reason answer.order answer.status answer.text.items) }
 {
     match text_and_units(alloc, after) {
         Ok((text, units)) => {
@@ -117,9 +119,9 @@ fn second_comparison<'e, A: Allocator + Copy>(
     after: DefText<'_, A>,
 ) -> Result<ComparisonAnswer<'e, A>, AllocError>
     requires { first.now.library ≡ library.now }
-    ensures { IfOk result (λ answer. (lefs : List (List ℕ)) (before : List ℕ) → DenoteDesign lefs before library.now first.now
-        → DenotesJust lefs after.entry library.now
-        → IsComparisonExplained lefs before after.entry answer.reason answer.status answer.text.items) }
+    ensures { IfOk result (λ answer. (lefs : List (List ℕ)) (before : List ℕ) → DenotesJust lefs before library.now
+        → Denotes (design_in library.now) before first.now → DenotesJust lefs after.entry library.now
+        → IsComparisonExplained lefs before after.entry answer.reason answer.order answer.status answer.text.items) }
 {
     match after.design(alloc, library) {
         Ok(second) => comparison(alloc, first, &second),
@@ -134,9 +136,10 @@ fn comparison<'e, A: Allocator + Copy>(
     second: &Design<'_, A>,
 ) -> Result<ComparisonAnswer<'e, A>, AllocError>
     requires { first.now.library ≡ second.now.library }
-    ensures { IfOk result (λ answer. (lefs : List (List ℕ)) (before after : List ℕ) → DenoteDesign lefs before first.now.library first.now
-        → DenoteDesign lefs after first.now.library second.now
-        → IsComparisonExplained lefs before after answer.reason answer.status answer.text.items) }
+    ensures { IfOk result (λ answer. (lefs : List (List ℕ)) (before after : List ℕ) → DenotesJust lefs before first.now.library
+        → Denotes (design_in first.now.library) before first.now → DenotesJust lefs after first.now.library
+        → Denotes (design_in first.now.library) after second.now
+        → IsComparisonExplained lefs before after answer.reason answer.order answer.status answer.text.items) }
 {
     let list = differences(alloc, first, second)?;
     let verdict = verdict_of(first, &list);
@@ -145,7 +148,23 @@ fn comparison<'e, A: Allocator + Copy>(
         status: status_of(verdict),
         text,
         reason: None,
+        order: told_order(first, second, verdict),
     })
+}
+
+// What is told of the order of the entries: only of designs that are the same.
+fn told_order<A: Allocator + Copy>(
+    first: &Design<'_, A>,
+    second: &Design<'_, A>,
+    verdict: Verdict,
+) -> OtherOrder
+    ensures components { IsTrue result.components ↔ ((status_of verdict ≡ Success) × HaveOtherOrder Components first.now second.now) }
+    ensures nets { IsTrue result.nets ↔ ((status_of verdict ≡ Success) × HaveOtherOrder Nets first.now second.now) }
+{
+    match verdict {
+        Verdict::Same => other_order(first, second),
+        _ => one_order(),
+    }
 }
 
 fn status_of(verdict: Verdict) -> Status
@@ -166,7 +185,7 @@ fn other_units<'a, A: Allocator + Copy>(
 ) -> Result<ComparisonAnswer<'a, A>, AllocError>
     ensures { IfOk result (λ answer. (before : List ℕ) (first : DesignModel) → DenoteDesign (map (λ t. t.now) lefs.now) before library.now first
         → ((units : ℕ) → Denotes units_in after.now units → units ≢ library.now.units)
-        → IsComparisonExplained (map (λ t. t.now) lefs.now) before after.now answer.reason answer.status answer.text.items) }
+        → IsComparisonExplained (map (λ t. t.now) lefs.now) before after.now answer.reason answer.order answer.status answer.text.items) }
 {
     match library_for(alloc, lefs, after) {
         Ok((other, text)) => other_library(alloc, lefs.len(), &other, text),
@@ -183,7 +202,7 @@ fn other_library<'e, A: Allocator + Copy>(
 ) -> Result<ComparisonAnswer<'e, A>, AllocError>
     ensures { IfOk result (λ answer. (lefs : List (List ℕ)) (before : List ℕ) (library : LibraryModel) (first : DesignModel)
         → DenoteDesign lefs before library first → library.units ≢ other.now.units → DenotesJust lefs after.entry other.now
-        → IsComparisonExplained lefs before after.entry answer.reason answer.status answer.text.items) }
+        → IsComparisonExplained lefs before after.entry answer.reason answer.order answer.status answer.text.items) }
 {
     match after.design(alloc, other) {
         Ok(_second) => units_differ(alloc),
@@ -194,13 +213,14 @@ fn other_library<'e, A: Allocator + Copy>(
 // The answer to designs at other units.
 fn units_differ<'e, A: Allocator + Copy>(alloc: A) -> Result<ComparisonAnswer<'e, A>, AllocError>
     ensures { IfOk result (λ answer. (lefs : List (List ℕ)) (before after : List ℕ) → HasOtherUnits lefs before after units_text
-        → IsComparisonExplained lefs before after answer.reason answer.status answer.text.items) }
+        → IsComparisonExplained lefs before after answer.reason answer.order answer.status answer.text.items) }
 {
     let text = Vec::from_slice(alloc, OTHER_UNITS)?;
     Ok(ComparisonAnswer {
         status: Status::Violations,
         text,
         reason: None,
+        order: one_order(),
     })
 }
 
@@ -215,7 +235,7 @@ fn unread<'e, A: Allocator + Copy>(
     ensures { IfOk result (λ answer. (lefs : List (List ℕ)) (before after : List ℕ)
         → DenotesJust lefs (def_of side before after) library.now
         → (fault.kind ≢ kinds.Memory → (said : DesignModel) → ¬ Denotes (design_in library.now) (def_of side before after) said)
-        → IsComparisonExplained lefs before after answer.reason answer.status answer.text.items) }
+        → IsComparisonExplained lefs before after answer.reason answer.order answer.status answer.text.items) }
 {
     let master = needed_master(alloc, library, fault.need)?;
     let fault = TextFault::Read(behind_lefs(count, fault));
@@ -232,7 +252,7 @@ fn refusal<'a, A: Allocator + Copy>(
     ensures { IfOk result (λ answer. (lefs : List (List ℕ)) (before after : List ℕ)
         → Refuses (DenoteNothing lefs (def_of side before after)) ⊥ fault.entry → HasUnitsOf (def_of side before after) fault.entry
         → IsOfMaster lefs (def_of side before after) fault.entry master
-        → IsComparisonExplained lefs before after answer.reason answer.status answer.text.items) }
+        → IsComparisonExplained lefs before after answer.reason answer.order answer.status answer.text.items) }
 {
     match fault {
         TextFault::Read(fault) => not_read(alloc, side, fault, master),
@@ -254,7 +274,7 @@ fn not_read<'e, A: Allocator + Copy>(
     ensures { IfOk result (λ answer. (lefs : List (List ℕ)) (before after : List ℕ)
         → Refuses (DenoteNothing lefs (def_of side before after)) ⊥ (Read fault)
         → IsOfMaster lefs (def_of side before after) (Read fault) master
-        → IsComparisonExplained lefs before after answer.reason answer.status answer.text.items) }
+        → IsComparisonExplained lefs before after answer.reason answer.order answer.status answer.text.items) }
 {
     if fault.kind == FaultKind::Memory {
         return Err(AllocError);
@@ -279,11 +299,17 @@ fn refused<'e, A: Allocator>(
     side: Side,
     reason: Reason<'e, A>,
 ) -> ComparisonAnswer<'e, A>
-    ensures { result ≡ record { status = Refused; text = text; reason = Some (record { side = side; reason = reason.entry }) } }
+    ensures { result ≡ record {
+      status = Refused;
+      text = text;
+      reason = Some (record { side = side; reason = reason.entry });
+      order = record { components = false; nets = false };
+    } }
 {
     ComparisonAnswer {
         status: Status::Refused,
         text,
         reason: Some(ComparisonReason { side, reason }),
+        order: one_order(),
     }
 }

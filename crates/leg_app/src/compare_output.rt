@@ -5,7 +5,7 @@ ghost use Rattle.leg_app.specs.Answer.{TakesAnswer, TakesPart};
 ghost use Rattle.leg_app.specs.Comparison.{IsComparison, IsComparisonExplained};
 
 use crate::compare::compare_texts;
-use crate::compare_end::ComparisonEnd;
+use crate::compare_end::{ComparisonEnd, one_order};
 use crate::run_command::{RunFault, run_out, write_text};
 use std::alloc::Allocator;
 use std::io::Write;
@@ -19,7 +19,7 @@ pub fn run_compare<'a, W: Write, A: Allocator + Copy>(
     after: &[u8],
     out: &mut W,
 ) -> Result<ComparisonEnd<'a, A>, RunFault>
-    ensures whole { IfOk result (λ ended. TakesAnswer (IsComparisonExplained (map (λ t. t.now) lefs.now) before.now after.now ended.reason) ended.status
+    ensures whole { IfOk result (λ ended. TakesAnswer (IsComparisonExplained (map (λ t. t.now) lefs.now) before.now after.now ended.reason ended.order) ended.status
         (W.contents out.old) (W.contents out.new)) }
     ensures cut { OnErr result (TakesPart (IsComparison (map (λ t. t.now) lefs.now) before.now after.now)
         (W.contents out.old) (W.contents out.new)) }
@@ -30,6 +30,7 @@ pub fn run_compare<'a, W: Write, A: Allocator + Copy>(
             Ok(ComparisonEnd {
                 status: answer.status,
                 reason: answer.reason,
+                order: answer.order,
             })
         }
         Err(_) => {
@@ -37,6 +38,7 @@ pub fn run_compare<'a, W: Write, A: Allocator + Copy>(
             Ok(ComparisonEnd {
                 status,
                 reason: None,
+                order: one_order(),
             })
         }
     }

@@ -30,6 +30,7 @@ pub use leg_app_input::{
     split_stream,
 };
 pub use leg_app_reason::{Reason, Stage};
+pub use leg_compare::OtherOrder;
 pub use leg_design::DefText;
 pub use leg_design_records::{Design, Fault};
 pub use leg_finish::Progress;

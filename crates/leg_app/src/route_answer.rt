@@ -6,7 +6,6 @@ ghost use Rattle.leg_design_records.specs.Records.{DesignModel};
 ghost use Rattle.leg_rules.specs.Metal.Metal.{metal_of};
 ghost use Rattle.leg_rules.specs.declared.grid_limits.TheConstants.{GRID_LIMIT};
 ghost use Rattle.leg_rules.specs.Route.GridSize.{IsGridTooLarge};
-ghost use Rattle.leg_output.specs.Names.{net_name};
 ghost use Rattle.leg_route.specs.Refusal.{IsRouteRefusal};
 ghost use Rattle.leg_app_input.specs.declared.command.Command.{Command};
 ghost use Rattle.leg_app_input.specs.declared.command.Command.TheVariants.{Route};
@@ -96,7 +95,7 @@ fn cut_off_piece<A: Allocator + Copy>(
 ) -> Result<Option<Items<u8, A>>, AllocError>
     requires few { length (metal_of design.now) ≤ PART_LIMIT }
     requires fits { ¬ IsGridTooLarge design.now }
-    ensures { IfOk result (λ piece. IsCutOff design.now (net_name design.now net) piece) }
+    ensures { IfOk result (λ piece. IsCutOff design.now net piece) }
 {
     let flat = flat_again(alloc, design)?;
     match first_unreachable_piece(alloc, design, &flat, net)? {

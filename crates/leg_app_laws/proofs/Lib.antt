@@ -7,5 +7,5 @@ mod Wires
 mod RoundTrips
 mod Legal
 -- What differs between a DEF and a printed text
-mod LastLines
+mod ComparisonLines
 mod PrintedDifferences

@@ -1,2 +1,2 @@
 pub mod Legal
-pub mod LastLine
+pub mod Lines

@@ -16,7 +16,7 @@ ghost use Rattle.leg_app.specs.RouteResult.{PrintsRouted};
 ghost use Rattle.leg_app.specs.FlowResult.{PrintsFlow};
 ghost use Rattle.leg_app.specs.FinishResult.{PrintsFinished};
 ghost use Rattle.leg_app_laws.specs.Legal.{AnswersLegal};
-ghost use Rattle.leg_app_laws.specs.LastLine.{IsOfPlaces, IsOfWires, IsOfPlacesAndWires, AnswersAs};
+ghost use Rattle.leg_app_laws.specs.Lines.{AnswersPlaces, AnswersWires, AnswersPlacesAndWires};
 
 use leg_app::laws::{command_has_one_answer, texts_say_one_design};
 use leg_compare::laws::{
@@ -88,45 +88,47 @@ pub fn finished_text_is_legal()
     command_has_one_answer();
 }
 
-/// What `legalise` prints differs in places of movable components alone from the DEF that it is made of: `compare` answers `same` or
-/// `places N`.
+/// What `legalise` prints differs in places of movable components alone from the DEF that it is made of: `compare` answers a line for each
+/// and `same` or `places N`.
 pub fn legalised_text_differs_in_places()
     ensures { (lefs : List (List ℕ)) (def text : List ℕ) (library : LibraryModel) (design : DesignModel)
         → DenoteDesign lefs def library design → (printed : PrintsLegalised design text)
-        → StayOne (printed_names printed.legalised) → length text ≤ TEXT_LIMIT → AnswersAs IsOfPlaces lefs def text }
+        → StayOne (printed_names printed.legalised) → length text ≤ TEXT_LIMIT → AnswersPlaces lefs def text }
 {
     printed_texts_say_their_designs();
     texts_say_one_design();
     legalised_design_differs_in_places();
 }
 
-/// What `route` prints differs in added wires alone: `compare` answers `same` or `wires N`.
+/// What `route` prints differs in added wires alone: `compare` answers a line for each entry of `NETS` that has more, and `same` or `wires N`.
 pub fn routed_text_differs_in_wires()
     ensures { (lefs : List (List ℕ)) (def text : List ℕ) (library : LibraryModel) (design : DesignModel)
         → DenoteDesign lefs def library design → (printed : PrintsRouted design text)
-        → StayOne (printed_names printed.routed) → length text ≤ TEXT_LIMIT → AnswersAs IsOfWires lefs def text }
+        → StayOne (printed_names printed.routed) → length text ≤ TEXT_LIMIT → AnswersWires lefs def text }
 {
     printed_texts_say_their_designs();
     texts_say_one_design();
     routed_design_differs_in_wires();
 }
 
-/// What `finish` prints differs in added wires alone: `compare` answers `same` or `wires N`.
+/// What `finish` prints differs in added wires alone: `compare` answers a line for each entry of `NETS` that has more, and `same` or
+/// `wires N`.
 pub fn finished_text_differs_in_wires()
     ensures { (lefs : List (List ℕ)) (def text : List ℕ) (library : LibraryModel) (design : DesignModel)
         → DenoteDesign lefs def library design → (printed : PrintsFinished design text)
-        → StayOne (printed_names printed.finished) → length text ≤ TEXT_LIMIT → AnswersAs IsOfWires lefs def text }
+        → StayOne (printed_names printed.finished) → length text ≤ TEXT_LIMIT → AnswersWires lefs def text }
 {
     printed_texts_say_their_designs();
     texts_say_one_design();
     routed_design_differs_in_wires();
 }
 
-/// What `flow` prints differs in places of movable components and in added wires alone: `compare` answers no `differs N`.
+/// What `flow` prints differs in places of movable components and in added wires alone: `compare` answers lines of these two kinds, and no
+/// `differs N`.
 pub fn flow_text_differs_in_places_and_wires()
     ensures { (lefs : List (List ℕ)) (def text : List ℕ) (library : LibraryModel) (design : DesignModel)
         → DenoteDesign lefs def library design → (printed : PrintsFlow design text)
-        → StayOne (printed_names printed.routed) → length text ≤ TEXT_LIMIT → AnswersAs IsOfPlacesAndWires lefs def text }
+        → StayOne (printed_names printed.routed) → length text ≤ TEXT_LIMIT → AnswersPlacesAndWires lefs def text }
 {
     printed_texts_say_their_designs();
     texts_say_one_design();

@@ -17,7 +17,7 @@ front_of (GridTooLarge limit) = codes "the grid of TRACKS is too large: all toge
 front_of (Unroutable net None) = codes "net "
 front_of (Unroutable net (Some piece)) = codes "net "
 front_of (Unreachable net piece) = codes "net "
-front_of Unfinished = codes "no room was found for the wires of these nets beside one another: give the block more room (rows, tracks or layers), or another placement"
+front_of Unfinished = codes "no legal wires were found that join these nets: they may be in one another's way, or a net may lie in parts that no way joins. Give the block more room (rows, tracks or layers), or another placement, or look for obstructions, blockages and wires of the block between the pieces of a net"
 front_of reason = []
 
 -- the component or the net that is named then
@@ -33,7 +33,7 @@ name_of reason = []
 abbrev pub middle_of : {A : Type 0} → Reason A → List ℕ
 middle_of (NoSite component) = codes " fits no row: its macro has to be exactly as high as its SITE and a whole number of sites wide, and a ROW has to have that site. FIXED, it would be OFFSITE. Give a cell of several rows' height a SITE of its own, with rows of it, or its macro no SITE, so that it stays where it is (docs/RECIPES.md)"
 middle_of (NoRoom component) = codes ": no free stretch of sites was long enough for it at its turn: take out fillers (tools/drop-fillers) or placement blockages, give the block more rows, or lower the utilisation"
-middle_of (Unroutable net None) = codes ": no way on the tracks was left at its turn, though each of its pieces can be reached in the block as it was given. Wires that are laid stay: try the command finish, which lays them again, or a lower density, or what tools/ease-routing makes of the block, with --first and the name of this net (docs/RECIPES.md)"
+middle_of (Unroutable net None) = codes ": no way on the tracks was left at its turn, though with no other net routed a way leads from each of its pieces to another one. If wires that were laid before are in its way, try the command finish, which lays them again, or a lower density, or what tools/ease-routing makes of the block, with --first and the name of this net (docs/RECIPES.md). If it lies in parts that no way joins, look for obstructions, blockages and wires of the block between its pieces"
 middle_of (Unroutable net (Some piece)) = codes ": nothing leads from "
 middle_of (Unreachable net piece) = codes ": nothing leads from "
 middle_of reason = []

@@ -1,8 +1,10 @@
 -- The words of a form of a LEF that has a name.
-use Rattle.std.specs.Prelude.{◌≡◌, ℕ, Bool, false, not, ◌&&◌, ◌||◌, if◌then◌else◌, List, [], ◌∷◌, Contains, codes}
+use Rattle.std.specs.Prelude.{◌≡◌, ℕ, Bool, false, not, ◌&&◌, ◌||◌, if◌then◌else◌, List, [], ◌∷◌, codes}
 use Rattle.std.specs.Str.{bytes_eq}
 use Rattle.leg_lex.specs.Word.{Word}
 use Rattle.leg_lex.specs.Words.{is_keyword}
+use Rattle.leg_lib_records.specs.declared.scale_fault.ScaleKind.{ScaleKind}
+use Rattle.leg_app_message.specs.Conversion.{begins_lengths, IsBehind}
 
 -- such a form begins with this word
 abbrev pub is_form : List ℕ → Bool
@@ -37,7 +39,8 @@ words_of_form name words = up_to_end name (from_form name words)
 abbrev pub BeginsWith : List ℕ → List Word → List ℕ → Type 0
 BeginsWith name words form = (line : ℕ) × (rest : List Word) × (from_form name words ≡ record { text = form; line = line } ∷ rest)
 
--- The length in this line is a word of the first form of this name, which begins with this word.
-abbrev pub IsInForm : List ℕ → List Word → List ℕ → List ℕ → ℕ → Type 0
-IsInForm name words form written line =
-    BeginsWith name words form × Contains (words_of_form name words) (record { text = written; line = line })
+-- The length in this line, which may have such a fault, is a word of the first form of this name, which begins with this word; it stands
+-- there behind a word of a length that is converted.
+abbrev pub IsInForm : ScaleKind → List ℕ → List Word → List ℕ → List ℕ → ℕ → Type 0
+IsInForm kind name words form written line =
+    BeginsWith name words form × IsBehind (begins_lengths kind form) (words_of_form name words) (record { text = written; line = line })

@@ -4,6 +4,8 @@ pub mod TextLine
 pub mod Note
 pub mod Texts
 pub mod Length
+pub mod Conversion
 pub mod Form
 pub mod Message
+pub mod EntryOrder
 pub mod Steps

@@ -6,12 +6,15 @@ use Rattle.leg_lex.specs.declared.limits.TheConstants.{TEXT_LIMIT}
 use Rattle.leg_lex.specs.declared.read_fault.ReadFault.{ReadFault}
 use Rattle.leg_lib_records.specs.declared.scale_fault.ScaleKind.{ScaleKind}
 use Rattle.leg_lib_records.specs.declared.scale_fault.ScaleFault.{ScaleFault}
+use Rattle.leg_lib_records.specs.Records.{RawLibraryModel}
+use Rattle.leg_grammar.specs.Lef.Library.{DenoteLibrary}
 use Rattle.leg_app_reason.specs.declared.reason.Reason.{Reason}
 use Rattle.leg_app_reason.specs.declared.reason.Reason.TheVariants.{Read, NoLibrary, Scale}
 use Rattle.leg_app_input.specs.Stream.{HasEndLibrary, IsSplit}
 use Rattle.leg_app_message.specs.declared.note.Note.{Note}
 use Rattle.leg_app_message.specs.Advice.{advice_of}
 use Rattle.leg_app_message.specs.Form.{IsInForm}
+use Rattle.leg_app_message.specs.Conversion.{IsOfLibrary}
 use Rattle.leg_app_message.specs.Length.{HasFault}
 use Rattle.leg_app_message.specs.Note.{note_line, hides_line}
 use Rattle.leg_app_message.specs.Sentence.{before_of, after_of, need_text, advice_on, scale_sentence_of}
@@ -84,8 +87,8 @@ name_message name reason = codes "layer, site, macro or via " ++ map shown_byte 
 abbrev pub advice_message : {A : Type 0} → TextsModel → Reason A → List ℕ
 advice_message texts reason = path_of texts (length texts.lefs) ++ codes ": " ++ advice_of reason ++ codes "\n"
 
--- a length of a LEF is shown, which has the fault at these units: it is a word of the first form of its name in the LEF, in the line
--- that is shown
+-- A length of a LEF is shown, which has the fault at these units: it is a word of the first form of its name in the LEF, in the line that
+-- is shown. It stands there behind a word of a length that is converted, and is one of what has that name in the library of the LEFs.
 pub record ShowsLength (texts : TextsModel) (fault : ScaleFault) (units : ℕ) (message : List ℕ) : Type 0 where
   pub number : ℕ
   pub line : ℕ
@@ -93,7 +96,10 @@ pub record ShowsLength (texts : TextsModel) (fault : ScaleFault) (units : ℕ) (
   pub written : List ℕ
   pub words : List Word
   pub are : AreTokens (text_of texts number) words
-  pub there : IsInForm fault.name words form written line
+  pub there : IsInForm fault.kind fault.name words form written line
+  pub library : RawLibraryModel
+  pub of_lefs : DenoteLibrary texts.lefs library
+  pub kept : IsOfLibrary library fault.kind form fault.name written
   pub has : HasFault fault.kind units written
   pub is : message ≡ length_message texts number line form fault.name written (scale_reason fault.kind units)
 

@@ -28,7 +28,7 @@ fn front_of<B: Allocator>(reason: &Reason<'_, B>) -> &'static [u8]
         Reason::Unroutable(_, Some(_)) => b"net ",
         Reason::Unreachable(_, _) => b"net ",
         Reason::Unfinished =>
-            b"no room was found for the wires of these nets beside one another: give the block more room (rows, tracks or layers), or another placement",
+            b"no legal wires were found that join these nets: they may be in one another's way, or a net may lie in parts that no way joins. Give the block more room (rows, tracks or layers), or another placement, or look for obstructions, blockages and wires of the block between the pieces of a net",
         _ => b"",
     }
 }
@@ -57,7 +57,7 @@ fn middle_of<B: Allocator>(reason: &Reason<'_, B>) -> &'static [u8]
         Reason::NoRoom(_) =>
             b": no free stretch of sites was long enough for it at its turn: take out fillers (tools/drop-fillers) or placement blockages, give the block more rows, or lower the utilisation",
         Reason::Unroutable(_, None) =>
-            b": no way on the tracks was left at its turn, though each of its pieces can be reached in the block as it was given. Wires that are laid stay: try the command finish, which lays them again, or a lower density, or what tools/ease-routing makes of the block, with --first and the name of this net (docs/RECIPES.md)",
+            b": no way on the tracks was left at its turn, though with no other net routed a way leads from each of its pieces to another one. If wires that were laid before are in its way, try the command finish, which lays them again, or a lower density, or what tools/ease-routing makes of the block, with --first and the name of this net (docs/RECIPES.md). If it lies in parts that no way joins, look for obstructions, blockages and wires of the block between its pieces",
         Reason::Unroutable(_, Some(_)) => b": nothing leads from ",
         Reason::Unreachable(_, _) => b": nothing leads from ",
         _ => b"",

@@ -1,19 +1,23 @@
 //! The message on a length of a LEF that isn't one in the DEF's units.
 
-ghost use Rattle.std.specs.Prelude.{◌≡◌, ◌++◌, List, Contains, IsTrue, IfSome, IfOk, OnOk};
+ghost use Rattle.std.specs.Prelude.{◌≡◌, ◌++◌, not, ◌&&◌, ◌||◌, List, IsTrue, IfSome, IfOk, OnOk, codes};
+ghost use Rattle.std.specs.Str.{bytes_eq};
 ghost use Rattle.leg_lex.specs.Word.{Word};
 ghost use Rattle.leg_lex.specs.Tokens.{AreTokens};
 ghost use Rattle.leg_app_message.specs.Form.{begins_form, ends_form, from_form, is_form, up_to_end, IsInForm};
+ghost use Rattle.leg_app_message.specs.Conversion.{begins_lengths, IsBehind, IsOfLibrary};
 ghost use Rattle.leg_app_message.specs.Length.{HasFault};
 ghost use Rattle.leg_app_message.specs.Message.{length_message, name_message, scale_reason, IsScaleMessage};
 
+use crate::conversion::{begins_lengths, is_of_library};
 use crate::parts::{push_number, push_parts};
 use crate::refused::push_place;
 use crate::sentence::scale_sentence_of;
 use crate::text_line::{line_of, push_shown, push_shown_bytes};
 use crate::texts::Texts;
 use leg_lex::{NumFault, Token, UNITS_LIMIT, is_keyword, micron, tokens};
-use leg_lib_records::{ScaleFault, ScaleKind};
+use leg_lib::read_lefs;
+use leg_lib_records::{RawLibrary, ScaleFault, ScaleKind};
 use std::alloc::{AllocError, Allocator};
 
 /// A length as a LEF writes it.
@@ -37,8 +41,11 @@ pub(crate) fn scale_message<A: Allocator + Copy>(
 ) -> Result<Vec<u8, A>, AllocError>
     ensures { IfOk result (λ m. IsScaleMessage texts.now fault.now units m.items) }
 {
+    let Ok(library) = read_lefs(alloc, texts.lefs) else {
+        return name_message(alloc, fault, units);
+    };
     for number in 0..texts.def_number() {
-        if let Some(written) = written_in(alloc, texts.text(number), fault, units) {
+        if let Some(written) = written_in(alloc, texts.text(number), &library, fault, units) {
             return written_message(alloc, texts, number, fault, units, &written);
         }
     }
@@ -97,33 +104,42 @@ fn push_reason<A: Allocator>(
     message.extend_from_slice(b" units to the micron)\n")
 }
 
-/// The first length of this fault in the first form of its name; none where there is none, and where memory runs out.
+/// The first length of this fault in the first form of its name, which the library has; none where there is none, and where memory
+/// runs out.
 fn written_in<'a, A: Allocator + Copy>(
     alloc: A,
     lef: &'a [u8],
+    library: &RawLibrary<'_, A>,
     fault: &ScaleFault<'_>,
     units: u32,
 ) -> Option<Written<'a>>
     ensures has { IfSome result (λ written. HasFault fault.now.kind units written.length.now) }
-    ensures there { IfSome result (λ written. (words : List Word) × AreTokens lef.now words × IsInForm fault.now.name words written.form.now written.length.now written.line) }
+    ensures kept { IfSome result (λ written. IsOfLibrary library.now fault.now.kind written.form.now fault.now.name written.length.now) }
+    ensures there { IfSome result (λ written. (words : List Word) × AreTokens lef.now words × IsInForm fault.now.kind fault.now.name words written.form.now written.length.now written.line) }
 {
     let Ok(words) = tokens(alloc, lef) else {
         return None;
     };
-    written_among(&words, fault, units)
+    written_among(&words, library, fault, units)
 }
 
 /// The same among the words of a LEF.
-fn written_among<'a>(words: &[Token<'a>], fault: &ScaleFault<'_>, units: u32) -> Option<Written<'a>>
+fn written_among<'a, A: Allocator + Copy>(
+    words: &[Token<'a>],
+    library: &RawLibrary<'_, A>,
+    fault: &ScaleFault<'_>,
+    units: u32,
+) -> Option<Written<'a>>
     ensures has { IfSome result (λ written. HasFault fault.now.kind units written.length.now) }
-    ensures there { IfSome result (λ written. IsInForm fault.now.name words.now written.form.now written.length.now written.line) }
+    ensures kept { IfSome result (λ written. IsOfLibrary library.now fault.now.kind written.form.now fault.now.name written.length.now) }
+    ensures there { IfSome result (λ written. IsInForm fault.now.kind fault.now.name words.now written.form.now written.length.now written.line) }
 {
     let name = fault.name.bytes();
     let rest = from_form(words, name);
     let [form, ..] = rest else {
         return None;
     };
-    let length = length_in(up_to_end(rest, name), fault.kind, units)?;
+    let length = length_in(up_to_end(rest, name), form.text, library, fault, units)?;
     Some(Written {
         line: length.line,
         form: form.text,
@@ -189,31 +205,37 @@ fn ends_form(words: &[Token<'_>], name: &[u8]) -> bool
     }
 }
 
-/// The first length of this fault among the words of a form, in a statement whose lengths are converted.
-fn length_in<'t, 'a>(words: &'t [Token<'a>], kind: ScaleKind, units: u32) -> Option<&'t Token<'a>>
-    ensures has { IfSome result (λ word. HasFault kind units word.now.text) }
-    ensures there { IfSome result (λ word. Contains words.now word.now) }
+/// The first length of this fault among the words of a form that begins with this word, in a statement whose lengths are converted, which
+/// the library has.
+fn length_in<'t, 'a, A: Allocator + Copy>(
+    words: &'t [Token<'a>],
+    form: &[u8],
+    library: &RawLibrary<'_, A>,
+    fault: &ScaleFault<'_>,
+    units: u32,
+) -> Option<&'t Token<'a>>
+    ensures has { IfSome result (λ word. HasFault fault.now.kind units word.now.text) }
+    ensures kept { IfSome result (λ word. IsOfLibrary library.now fault.now.kind form.now fault.now.name word.now.text) }
+    ensures there { IfSome result (λ word. IsBehind (begins_lengths fault.now.kind form.now) words.now word.now) }
 {
     let mut is_converted = false;
     for word in words {
-        if is_converted && has_fault(word.text, kind, units) {
+        if is_converted
+            && has_fault(word.text, fault.kind, units)
+            && is_of_library(library, fault.kind, form, fault.name.bytes(), word.text)
+        {
             return Some(word);
         }
-        is_converted = word.text != b";".as_slice()
-            && (is_converted || begins_lengths(word.text, kind));
+        is_converted = is_behind(is_converted, fault.kind, form, word.text);
     }
     None
 }
 
-/// Whether lengths that may have this fault come after the word.
-fn begins_lengths(word: &[u8], kind: ScaleKind) -> bool {
-    is_keyword(b"WIDTH", word)
-        || kind != ScaleKind::OddWidth
-            && (is_keyword(b"SIZE", word)
-                || is_keyword(b"RECT", word)
-                || is_keyword(b"ORIGIN", word)
-                || is_keyword(b"SPACING", word)
-                || is_keyword(b"SPACINGTABLE", word))
+/// Whether lengths that may have such a fault come after the word, or come after it still, in a form that begins with the first one.
+fn is_behind(is_converted: bool, kind: ScaleKind, form: &[u8], word: &[u8]) -> bool
+    ensures { result ≡ (not (bytes_eq word.now (codes ";")) && (is_converted || begins_lengths kind form.now word.now)) }
+{
+    word != b";".as_slice() && (is_converted || begins_lengths(kind, form, word))
 }
 
 /// Whether the word is a length that has this fault at this many units a micron, which a DEF may have.

@@ -40,3 +40,14 @@ same_elements (x ∷ xs) (y ∷ ys) same alike =
     let head : x ≡ y = alike 0 x y (omega arith) in
     let tail : xs ≡ ys = same_elements xs ys (omega arith) (λ k d e within. alike (suc k) d e (omega arith)) in
     λ i. head i ∷ tail i
+
+-- the same, where what stands beyond them is one value
+pub same_at_each : {X : Type 0} (xs ys : List X) (beyond : X) → length xs ≡ length ys
+    → ((k : ℕ) → k < length xs → get_or xs k beyond ≡ get_or ys k beyond) → xs ≡ ys
+same_at_each [] [] beyond same alike = refl
+same_at_each [] (y ∷ ys) beyond same alike = absurd (omega arith)
+same_at_each (x ∷ xs) [] beyond same alike = absurd (omega arith)
+same_at_each (x ∷ xs) (y ∷ ys) beyond same alike =
+    let head : x ≡ y = alike 0 (omega arith) in
+    let tail : xs ≡ ys = same_at_each xs ys beyond (omega arith) (λ k within. alike (suc k) (omega arith)) in
+    λ i. head i ∷ tail i

@@ -4,7 +4,7 @@ ghost use Rattle.std.specs.Prelude.{◌≡◌, ◌↔◌, IsTrue, option_map};
 
 use leg_geom::{Orient, Place, Rect};
 use leg_lex::Name;
-use leg_lib_records::{Items, Shape};
+use leg_lib_records::{Items, ShapeList};
 use std::alloc::Allocator;
 
 /// Whether both are the same word, or there is none.
@@ -54,7 +54,7 @@ pub(crate) fn is_same_place(a: &Option<Place>, b: &Option<Place>) -> bool
 }
 
 /// Whether both are the same shapes, in one order.
-pub(crate) fn are_same_shapes<A: Allocator>(a: &Items<Shape, A>, b: &Items<Shape, A>) -> bool
+pub(crate) fn are_same_shapes<A: Allocator>(a: &ShapeList<A>, b: &ShapeList<A>) -> bool
     ensures { IsTrue result ↔ (a.now ≡ b.now) }
 {
     *a == *b

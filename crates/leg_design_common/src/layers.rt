@@ -9,7 +9,7 @@ ghost use Rattle.leg_design_records.specs.Layers.{wire_width, width_of_layer, is
 
 use leg_geom::Rect;
 use leg_lex::{Cursor, FaultKind, NameKind, Need, ReadFault};
-use leg_lib_records::{LayerKind, Library, Shape};
+use leg_lib_records::{LayerKind, Library, Shape, ShapeList};
 use std::alloc::{AllocError, Allocator};
 
 /// A layer of the library, by its number.
@@ -68,13 +68,12 @@ pub fn push_rect<A: Allocator + Copy>(
     library: &Library<'_, A>,
     layer: usize,
     rect: Rect,
-    shapes: &mut Vec<Shape, A>,
+    shapes: &mut ShapeList<A>,
 ) -> Result<(), AllocError>
-    ensures { OnOk result (shapes.new.items ≡ with_rect library.now layer rect shapes.old.items) }
+    ensures { OnOk result (shapes.new ≡ with_rect library.now layer rect shapes.old) }
 {
     if has_metal(library, layer) {
-        shapes.reserve(1)?;
-        shapes.push(Shape { layer, rect }).unwrap();
+        shapes.push(Shape { layer, rect })?;
     }
     Ok(())
 }

@@ -1,11 +1,11 @@
 //! What the clauses of a pin give (LEF/DEF 5.8, "Pins").
 
-ghost use Rattle.std.specs.Prelude.{◌≡◌, Some, None, OnOk};
+ghost use Rattle.std.specs.Prelude.{◌≡◌, Some, None, OnOk, IfOk};
 ghost use Rattle.leg_lex.specs.Words.{Means};
 ghost use Rattle.leg_lex.specs.Until.{over};
 ghost use Rattle.leg_grammar.specs.Def.PinClauses.{no_pin_clauses, net_of_pin, word_in, last_port, all_ports, port_start, port_rect, port_place, pin_net_clause, direction_clause, pin_use_clause, pin_clause};
 
-use crate::port::{OpenPort, layer_rect};
+use crate::port::{empty_port, layer_rect};
 use leg_design_common::clause::clause;
 use leg_design_common::layers::push_rect;
 use leg_design_common::placement::{placed, says_place};
@@ -22,7 +22,7 @@ pub(crate) struct PinParts<'a, A: Allocator> {
     pub(crate) direction: Option<Name<'a>>,
     pub(crate) usage: Option<Name<'a>>,
     pub(crate) done: Vec<Port<A>, A>,
-    last: Option<OpenPort<A>>,
+    last: Option<Port<A>>,
 }
 
 impl<'a, A: Allocator> Model for PinParts<'a, A> {
@@ -70,13 +70,13 @@ impl<'a, A: Allocator + Copy> PinParts<'a, A> {
     }
 
     /// Takes the last port out; where none has begun, a new one.
-    fn take_last(&mut self, alloc: A) -> OpenPort<A>
-        ensures taken { result ≡ last_port self.old }
+    fn take_last(&mut self, alloc: A) -> Result<Port<A>, AllocError>
+        ensures taken { IfOk result (λ port. port ≡ last_port self.old) }
         ensures left { self.new ≡ record self.old { last = None } }
     {
         match self.last.take() {
-            Some(port) => port,
-            None => OpenPort::new(alloc),
+            Some(port) => Ok(port),
+            None => empty_port(alloc),
         }
     }
 
@@ -86,7 +86,7 @@ impl<'a, A: Allocator + Copy> PinParts<'a, A> {
     {
         self.done.reserve(1)?;
         if let Some(port) = self.last.take() {
-            self.done.push(port.into_port()).unwrap();
+            self.done.push(port).unwrap();
         }
         Ok(())
     }
@@ -135,7 +135,7 @@ impl<'a, A: Allocator + Copy> PinParts<'a, A> {
         clause.keyword(b"PORT")?;
         clause.nothing_more()?;
         self.close()?;
-        self.last = Some(OpenPort::new(alloc));
+        self.last = Some(empty_port(alloc)?);
         Ok(())
     }
 
@@ -150,7 +150,7 @@ impl<'a, A: Allocator + Copy> PinParts<'a, A> {
         ensures { Means (λ _. self.new) result (port_rect library.now self.old clause.old) }
     {
         let (layer, rect) = layer_rect(library, clause)?;
-        let mut port = self.take_last(alloc);
+        let mut port = self.take_last(alloc)?;
         push_rect(library, layer, rect, &mut port.shapes)?;
         self.last = Some(port);
         Ok(())
@@ -161,7 +161,7 @@ impl<'a, A: Allocator + Copy> PinParts<'a, A> {
     fn port_place(&mut self, alloc: A, clause: &mut Cursor<'_, 'a>) -> Result<(), ReadFault>
         ensures { Means (λ _. self.new) result (port_place self.old clause.old) }
     {
-        let mut port = self.take_last(alloc);
+        let mut port = self.take_last(alloc)?;
         if port.place.is_some() {
             return Err(clause.need(FaultKind::Unexpected, Need::NoSecond));
         }

@@ -1,61 +1,26 @@
 //! Ports of a pin (LEF/DEF 5.8, "Pins").
 
-ghost use Rattle.std.specs.Prelude.{◌≡◌};
+ghost use Rattle.std.specs.Prelude.{◌≡◌, IfOk};
 ghost use Rattle.leg_lex.specs.Words.{Reads, Means};
 ghost use Rattle.leg_grammar.specs.Def.Port.{empty_port, past_number, past_rules, layer_rect};
 
 use leg_design_common::clause::rect_or_mask;
 use leg_design_common::layers::layer;
 use leg_design_records::{Port, Status};
-use leg_geom::{Place, Rect};
+use leg_geom::Rect;
 use leg_lex::{Cursor, ReadFault};
-use leg_lib_records::{Items, Library, Shape};
-use std::alloc::Allocator;
-use std::marker::Model;
+use leg_lib_records::{Library, ShapeList};
+use std::alloc::{AllocError, Allocator};
 
-/// A port to which clauses may still add.
-#[derive(Drop)]
-pub(crate) struct OpenPort<A: Allocator> {
-    pub(crate) shapes: Vec<Shape, A>,
-    pub(crate) status: Status,
-    pub(crate) place: Option<Place>,
-}
-
-impl<A: Allocator> Model for OpenPort<A> {
-    ghost use Rattle.leg_design_records.specs.Records.{PortModel};
-
-    ghost Value = { PortModel };
-
-    ghost view = { λ p. record { shapes = p.shapes.items; status = p.status; place = p.place } };
-}
-
-impl<A: Allocator + Copy> OpenPort<A> {
-    /// A port of which nothing is given.
-    pub(crate) fn new(alloc: A) -> OpenPort<A>
-        ensures { result ≡ empty_port }
-    {
-        OpenPort {
-            shapes: Vec::new(alloc),
-            status: Status::Unplaced,
-            place: None,
-        }
-    }
-
-    /// The port as it is.
-    pub(crate) fn into_port(self) -> Port<A>
-        ensures { result ≡ self }
-    {
-        let OpenPort {
-            shapes,
-            status,
-            place,
-        } = self;
-        Port {
-            shapes: Items::from_vec(shapes),
-            status,
-            place,
-        }
-    }
+/// A port of which nothing is given.
+pub(crate) fn empty_port<A: Allocator + Copy>(alloc: A) -> Result<Port<A>, AllocError>
+    ensures { IfOk result (λ port. port ≡ empty_port) }
+{
+    Ok(Port {
+        shapes: ShapeList::with_capacity(alloc, 1)?,
+        status: Status::Unplaced,
+        place: None,
+    })
 }
 
 /// Reads past this keyword and a number, if the keyword is next.

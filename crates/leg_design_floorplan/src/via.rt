@@ -10,7 +10,7 @@ use leg_design_common::clause::{clause, rect_or_mask};
 use leg_design_common::layers::{layer, push_rect};
 use leg_design_common::section_start;
 use leg_lex::{Cursor, FaultKind, Name, NameKind, NamedList, Need, ReadFault, clauses};
-use leg_lib_records::{Items, Library, Shape, Via};
+use leg_lib_records::{Library, ShapeList, Via};
 use std::alloc::Allocator;
 
 /// Adds the rectangle of a clause `RECT`, where its layer carries metal. Where a clause `MASK` comes before the corners,
@@ -19,10 +19,10 @@ use std::alloc::Allocator;
 fn via_rect<A: Allocator + Copy>(
     library: &Library<'_, A>,
     is_masked: bool,
-    shapes: &mut Vec<Shape, A>,
+    shapes: &mut ShapeList<A>,
     part: &mut Cursor<'_, '_>,
 ) -> Result<(), ReadFault>
-    ensures { Means (λ _. shapes.new.items) result (via_rect library.now shapes.old.items part.old) }
+    ensures { Means (λ _. shapes.new) result (via_rect library.now shapes.old part.old) }
 {
     part.keyword(b"RECT")?;
     let layer = layer(library, part)?;
@@ -48,10 +48,10 @@ fn is_other_via(part: &Cursor<'_, '_>) -> bool
 fn via_clause<A: Allocator + Copy>(
     library: &Library<'_, A>,
     is_masked: bool,
-    shapes: &mut Vec<Shape, A>,
+    shapes: &mut ShapeList<A>,
     part: &mut Cursor<'_, '_>,
 ) -> Result<(), ReadFault>
-    ensures { Means (λ _. shapes.new.items) result (via_clause library.now shapes.old.items part.old) }
+    ensures { Means (λ _. shapes.new) result (via_clause library.now shapes.old part.old) }
 {
     if part.is_at(b"RECT") {
         via_rect(library, is_masked, shapes, part)
@@ -68,10 +68,10 @@ fn all_shapes<A: Allocator + Copy>(
     alloc: A,
     library: &Library<'_, A>,
     clauses: &[Cursor<'_, '_>],
-) -> Result<Vec<Shape, A>, ReadFault>
-    ensures { Means (λ v. v.items) result (over (via_clause library.now) [] clauses.now) }
+) -> Result<ShapeList<A>, ReadFault>
+    ensures { Means (λ v. v) result (over (via_clause library.now) [] clauses.now) }
 {
-    let mut shapes = Vec::new(alloc);
+    let mut shapes = ShapeList::with_capacity(alloc, clauses.len())?;
     for (i, part) in clauses.iter().enumerate() {
         let is_masked = clauses.get(i + 1).is_some_and(|next| next.is_at(b"MASK"));
         via_clause(library, is_masked, &mut shapes, &mut part.again())?;
@@ -114,12 +114,12 @@ fn via<'a, A: Allocator + Copy>(
     };
     let name = via_head(library, vias, &mut head.again())?;
     let shapes = all_shapes(alloc, library, clauses)?;
-    let good = library.is_good_via(alloc, name, &shapes)?;
+    let good = library.is_good_via(alloc, name, shapes.as_slice())?;
     Ok(Via {
         name: Name::new(name),
         default_via: false,
         good,
-        shapes: Items::from_vec(shapes),
+        shapes,
     })
 }
 

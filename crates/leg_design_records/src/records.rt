@@ -3,7 +3,7 @@
 
 use leg_geom::{Orient, Place, Point, Rect};
 use leg_lex::{Name, Named};
-use leg_lib_records::{Items, Shape};
+use leg_lib_records::{Items, ShapeList};
 use std::alloc::Allocator;
 use std::marker::Model;
 
@@ -75,7 +75,7 @@ pub struct Component<'a> {
 /// "Pins").
 #[derive(Drop)]
 pub struct Port<A: Allocator> {
-    pub shapes: Items<Shape, A>,
+    pub shapes: ShapeList<A>,
     pub status: Status,
     pub place: Option<Place>,
 }

@@ -1,4 +1,5 @@
 mod OpenNets
+mod WalkWires
 mod AddedWires
 mod WiresByNet
 mod WithWires

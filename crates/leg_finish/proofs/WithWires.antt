@@ -1,5 +1,5 @@
 -- The design that got the wires that were laid out and judged.
-use Rattle.std.proofs.Common.{◌≡◌, ◌↔◌, ◌+◌, ◌≤◌, ℕ, List, [], false, All, length, sum_by, inl, inr, arith}
+use Rattle.std.proofs.Common.{◌≡◌, ◌↔◌, ◌+◌, ◌≤◌, ℕ, List, false, All, length, sum_by, inl, inr, arith}
 use Rattle.leg_lib_records.specs.Sound.{IsSound}
 use Rattle.leg_rules.specs.Placement.Violations.{IsPlacementViolation}
 use Rattle.leg_design_records.specs.declared.fault.Fault.{Fault}

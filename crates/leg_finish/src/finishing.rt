@@ -8,7 +8,7 @@ ghost use Rattle.leg_rules.specs.Route.GridSize.{IsGridBeyond};
 ghost use Rattle.leg_rules.specs.Legal.{IsLegal};
 ghost use Rattle.leg_rules.specs.Route.SameButForWires.{IsSameButForWires};
 ghost use Rattle.leg_finish.specs.Refusal.{IsFinishRefusal};
-ghost use Rattle.leg_rules.specs.Finish.Wires.{AddsToOpenNets, HaveTotals};
+ghost use Rattle.leg_rules.specs.Finish.Wires.{AddsToOpenNets, AddsWalks, HaveTotals};
 ghost use Rattle.leg_finish.specs.Steps.Judgement.{AreFinishing};
 
 use crate::clean_flat::clean_flat;
@@ -41,6 +41,7 @@ pub fn finish<'a, A: Allocator + Copy, P: Progress>(
     ensures legal { IfOk result (λ done. IsLegal done.0) }
     ensures same { IfOk result (λ done. IsSameButForWires design.entry done.0) }
     ensures open_only { IfOk result (λ done. AddsToOpenNets design.entry done.0) }
+    ensures walks { IfOk result (λ done. AddsWalks design.entry done.0) }
     ensures totals { IfOk result (λ done. HaveTotals design.entry done.0 done.1.length done.1.vias) }
     ensures few { IfOk result (λ done. length (metal_of done.0) ≤ PART_LIMIT) }
     ensures fits { OnOk result (¬ IsGridBeyond GREATEST_GRID design.entry) }
@@ -54,9 +55,9 @@ pub fn finish<'a, A: Allocator + Copy, P: Progress>(
 /// its net is open, until all pieces of each net are joined. Nothing else changes, and the design is then legal. With it come how
 /// long the new wires are together and how many of them are vias.
 ///
-/// The wires lie on the grid of tracks and are spelled as `route` of `leg_route` spells its own. They are found by negotiation (see
-/// `negotiate` of `leg_finish_search`), and nothing is claimed of their lengths. The design is given only if the calls by which `check`
-/// judges find nothing wrong with it.
+/// What an entry gets are the wires of walks over the grid of tracks, one walk after another, each spelled as `route` of `leg_route`
+/// spells its own. The walks are found by negotiation (see `negotiate` of `leg_finish_search`), and nothing is claimed of how many or
+/// how long they are. The design is given only if the calls by which `check` judges find nothing wrong with it.
 ///
 /// The library is the one that the design was read with. On each refusal the design comes back unchanged: `TooMany` where it has
 /// more shapes than a flat may have, else `NotClean` with all violations of other kinds than open nets, else `GridTooLarge`, else
@@ -74,6 +75,7 @@ pub fn finish_within<'a, A: Allocator + Copy, P: Progress>(
     ensures legal { IfOk result (λ done. IsLegal done.0) }
     ensures same { IfOk result (λ done. IsSameButForWires design.entry done.0) }
     ensures open_only { IfOk result (λ done. AddsToOpenNets design.entry done.0) }
+    ensures walks { IfOk result (λ done. AddsWalks design.entry done.0) }
     ensures totals { IfOk result (λ done. HaveTotals design.entry done.0 done.1.length done.1.vias) }
     ensures few { IfOk result (λ done. length (metal_of done.0) ≤ PART_LIMIT) }
     ensures fits { OnOk result (¬ IsGridBeyond GREATEST_GRID design.entry) }
@@ -95,6 +97,7 @@ fn add_all<'a, A: Allocator + Copy>(
     ensures legal { IfOk result (λ done. IsLegal done.0) }
     ensures same { IfOk result (λ done. IsSameButForWires design.entry done.0) }
     ensures open_only { IfOk result (λ done. AddsToOpenNets design.entry done.0) }
+    ensures walks { IfOk result (λ done. AddsWalks design.entry done.0) }
     ensures totals { IfOk result (λ done. HaveTotals design.entry done.0 done.1.length done.1.vias) }
     ensures few { IfOk result (λ done. length (metal_of done.0) ≤ PART_LIMIT) }
     ensures fits { OnOk result (¬ IsGridBeyond GREATEST_GRID design.entry) }

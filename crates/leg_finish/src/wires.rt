@@ -2,6 +2,7 @@
 
 ghost use Rattle.std.specs.Prelude.{◌≡◌, false, All, IfOk, IfSome};
 ghost use Rattle.leg_design_records.specs.WellFormedNets.{IsWire};
+ghost use Rattle.leg_rules.specs.Finish.Wires.{AreWiresOfWalks};
 
 use leg_design_records::{Design, Wire};
 use leg_lib_records::Items;
@@ -17,7 +18,8 @@ fn wires_of_walk<A: Allocator + Copy>(
     walk: &[u32],
 ) -> Result<Option<Vec<Wire, A>>, AllocError>
     requires { grid.now.design ≡ design.now }
-    ensures { IfOk result (λ found. IfSome found (λ wires. All (IsWire design.now.library design.now.vias false) wires.items)) }
+    ensures walks { IfOk result (λ found. IfSome found (λ wires. AreWiresOfWalks design.now wires.items)) }
+    ensures spelled { IfOk result (λ found. IfSome found (λ wires. All (IsWire design.now.library design.now.vias false) wires.items)) }
 {
     if !is_walk(grid, walk) {
         return Ok(None);
@@ -35,7 +37,8 @@ pub(crate) fn wires_of_walks<A: Allocator + Copy>(
     walks: &[Items<u32, A>],
 ) -> Result<Option<Vec<Wire, A>>, AllocError>
     requires { grid.now.design ≡ design.now }
-    ensures { IfOk result (λ found. IfSome found (λ wires. All (IsWire design.now.library design.now.vias false) wires.items)) }
+    ensures walks { IfOk result (λ found. IfSome found (λ wires. AreWiresOfWalks design.now wires.items)) }
+    ensures spelled { IfOk result (λ found. IfSome found (λ wires. All (IsWire design.now.library design.now.vias false) wires.items)) }
 {
     let mut wires = Vec::new(alloc);
     for walk in walks {

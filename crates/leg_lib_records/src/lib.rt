@@ -18,6 +18,7 @@ mod records;
 mod scale;
 mod scale_fault;
 mod scale_shapes;
+mod shape_list;
 
 pub use items::Items;
 pub use joins::{LayerUse, ViaPart, is_wiring_word};
@@ -27,3 +28,4 @@ pub use raw::{RawKind, RawLayer, RawMaster, RawPin, RawShape, RawSite, RawVia};
 pub use raw_library::RawLibrary;
 pub use records::{Direction, Layer, LayerKind, Master, MasterPin, Shape, Site, Supply, Via};
 pub use scale_fault::{ScaleFault, ScaleKind};
+pub use shape_list::{ShapeList, ShapeListFits};

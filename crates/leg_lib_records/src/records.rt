@@ -2,6 +2,7 @@
 
 use crate::items::Items;
 use crate::measure::Extent;
+use crate::shape_list::ShapeList;
 use leg_geom::Rect;
 use leg_lex::{Name, Named};
 use std::alloc::Allocator;
@@ -57,6 +58,20 @@ pub struct Shape {
     pub rect: Rect,
 }
 
+/// What fills the free places of a `ShapeList`, and is never read: the square between the points 0 0 and 1 1 on layer 0.
+impl Default for Shape {
+    ghost use Rattle.std.specs.Prelude.{◌≡◌, pos};
+
+    ghost is_default = { λ s. s ≡ record { layer = 0; rect = record { x1 = pos 0; y1 = pos 0; x2 = pos 1; y2 = pos 1 } } };
+
+    fn default() -> Shape {
+        Shape {
+            layer: 0,
+            rect: Rect::new(0, 0, 1, 1).unwrap(),
+        }
+    }
+}
+
 /// A via (LEF/DEF 5.8, "Via"). One that isn't good has no shapes.
 #[derive(Drop)]
 #[derive_where(PartialEq)]
@@ -66,7 +81,7 @@ pub struct Via<'a, A: Allocator> {
     pub default_via: bool,
     /// Whether a wire may name it.
     pub good: bool,
-    pub shapes: Items<Shape, A>,
+    pub shapes: ShapeList<A>,
 }
 
 impl<'a, A: Allocator> Model for Via<'a, A> {
@@ -85,7 +100,7 @@ impl<'a, A: Allocator> Model for Via<'a, A> {
 pub struct MasterPin<'a, A: Allocator> {
     pub name: Name<'a>,
     pub supply: Supply,
-    pub shapes: Items<Shape, A>,
+    pub shapes: ShapeList<A>,
 }
 
 impl<'a, A: Allocator> Model for MasterPin<'a, A> {
@@ -109,7 +124,7 @@ pub struct Master<'a, A: Allocator> {
     pub y_symmetric: bool,
     pub site: Option<usize>,
     pub pins: Items<MasterPin<'a, A>, A>,
-    pub obstructions: Items<Shape, A>,
+    pub obstructions: ShapeList<A>,
 }
 
 impl<'a, A: Allocator> Model for Master<'a, A> {

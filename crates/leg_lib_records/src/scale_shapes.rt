@@ -13,6 +13,7 @@ use crate::raw::{RawMaster, RawPin, RawShape, RawVia};
 use crate::records::{Master, MasterPin, Shape, Via};
 use crate::scale::{length_at, size_at};
 use crate::scale_fault::{ScaleFault, ScaleKind};
+use crate::shape_list::ShapeList;
 use leg_geom::Rect;
 use leg_lex::{Micron, Name, NamedList, UNITS_LIMIT};
 use std::alloc::Allocator;
@@ -111,17 +112,17 @@ fn shapes_at<A: Allocator + Copy>(
     raw: &[RawShape],
     n: u32,
     shift: &Shift,
-) -> Result<Items<Shape, A>, ScaleKind>
+) -> Result<ShapeList<A>, ScaleKind>
     requires above { 1 ≤ n }
     requires within { n ≤ UNITS_LIMIT }
     ensures ok { IfOk result (λ shapes. OneForOne (IsShapeAt n shift.now) raw.now shapes) }
     ensures none { IfErr result (λ kind. kind ≢ Memory → (shapes : List Shape) → ¬ OneForOne (IsShapeAt n shift.now) raw.now shapes) }
 {
-    let mut shapes = Vec::new(alloc);
+    let mut shapes = ShapeList::with_capacity(alloc, raw.len())?;
     for shape in raw {
         shapes.push(shape_at(shape, n, shift)?)?;
     }
-    Ok(Items::from_vec(shapes))
+    Ok(shapes)
 }
 
 /// A via in database units. Its shapes lie about the point 0 0.

@@ -6,7 +6,7 @@ use Rattle.leg_rules.specs.declared.side.Side.{Side}
 use Rattle.leg_rules.specs.declared.side.Side.TheVariants.{West, East, South, North, Below, Above}
 use Rattle.leg_rules.specs.declared.node.Node.{Node}
 use Rattle.leg_rules.specs.Route.Neighbours.{IsOver, IsNeighbour}
-use Rattle.leg_route_access.specs.Steps.GridWalk.{IsGridWalk}
+use Rattle.leg_rules.specs.Route.GridWalk.{IsGridWalk}
 use Rattle.leg_rules.specs.Route.Spelling.{IsOnLayer}
 use Rattle.leg_route_access.specs.Steps.Towards.{LiesDue}
 use Rattle.leg_route_access.proofs.NodeSides.{due}

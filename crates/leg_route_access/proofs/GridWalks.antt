@@ -9,7 +9,8 @@ use Rattle.leg_rules.specs.declared.node.Node.{Node}
 use Rattle.leg_rules.specs.Route.Nodes.{IsNode}
 use Rattle.leg_route_grid.specs.Steps.Grid.{GridModel, IsDesignGrid, IsNumberOf, slot_total}
 use Rattle.leg_route_grid.specs.Steps.NodeNumbers.{IsOneOf, IsNeighbourAt}
-use Rattle.leg_route_access.specs.Steps.GridWalk.{IsGridWalk, IsWalkByNumbers}
+use Rattle.leg_rules.specs.Route.GridWalk.{IsGridWalk}
+use Rattle.leg_route_access.specs.Steps.GridWalk.{IsWalkByNumbers}
 use Rattle.leg_route_grid.proofs.GridSlots.{one_node}
 use Rattle.leg_route_grid.proofs.StepsAt.{ends_are_nodes}
 use Rattle.leg_route_grid.proofs.SlotRanges.{below_total}

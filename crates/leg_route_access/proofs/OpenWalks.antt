@@ -11,7 +11,7 @@ use Rattle.leg_rules.specs.declared.node.Node.{Node}
 use Rattle.leg_rules.specs.Route.Neighbours.{IsNeighbour}
 use Rattle.leg_rules.specs.Route.StepWires.{StepAdds}
 use Rattle.leg_rules.specs.Route.OpenMetal.{IsOpenNode, IsOpenStep}
-use Rattle.leg_route_access.specs.Steps.GridWalk.{IsGridWalk}
+use Rattle.leg_rules.specs.Route.GridWalk.{IsGridWalk}
 
 module _ (design : DesignModel) (flat : FlatModel) (net : ℕ) where
   side_there : (a b : Node) (wire : Wire) → StepAdds design a b wire → (side : Side) × IsNeighbour design side a b

@@ -8,7 +8,7 @@ use Rattle.leg_rules.specs.declared.side.Side.{Side}
 use Rattle.leg_rules.specs.declared.node.Node.{Node}
 use Rattle.leg_rules.specs.Route.Neighbours.{IsNeighbour}
 use Rattle.leg_rules.specs.Route.StepWires.{IsLine, IsViaStep}
-use Rattle.leg_route_access.specs.Steps.GridWalk.{IsGridWalk}
+use Rattle.leg_rules.specs.Route.GridWalk.{IsGridWalk}
 use Rattle.leg_rules.specs.Route.Spelling.{IsOnLayer, IsStraight, one, more, EndsOrTurns, Spells, done, through, along, AreWiresOf, goes}
 use Rattle.leg_route_access.specs.Steps.Towards.{LiesDue, IsRunTowards}
 use Rattle.leg_route_access.specs.Steps.FirstWire.{SpellsAll, BeginsWithWire}

@@ -7,7 +7,8 @@ ghost use Rattle.leg_rules.specs.declared.node.Node.{Node};
 ghost use Rattle.leg_rules.specs.Route.Nodes.{IsNode};
 ghost use Rattle.leg_route_grid.specs.Steps.Grid.{IsDesignGrid, slot_total, IsNumberOf};
 ghost use Rattle.leg_route_grid.specs.Steps.NodeNumbers.{IsOneOf, IsNeighbourAt};
-ghost use Rattle.leg_route_access.specs.Steps.GridWalk.{IsGridWalk, IsWalkByNumbers};
+ghost use Rattle.leg_rules.specs.Route.GridWalk.{IsGridWalk};
+ghost use Rattle.leg_route_access.specs.Steps.GridWalk.{IsWalkByNumbers};
 
 use leg_route_grid::Grid;
 use leg_route_search::Side;

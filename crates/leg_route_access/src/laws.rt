@@ -11,7 +11,7 @@ ghost use Rattle.leg_rules.specs.Route.Walk.{IsShortest, NoWalk};
 ghost use Rattle.leg_route_grid.specs.declared.slot_box.SlotBox.{SlotBox};
 ghost use Rattle.leg_rules.specs.Route.OpenMetal.{IsOpenNode, IsOpenStep};
 ghost use Rattle.leg_route_access.specs.Steps.NearNeighbours.{IsNeighbourNear};
-ghost use Rattle.leg_route_access.specs.Steps.GridWalk.{IsGridWalk};
+ghost use Rattle.leg_rules.specs.Route.GridWalk.{IsGridWalk};
 ghost use Rattle.leg_design_records.specs.Records.{DesignModel};
 ghost use Rattle.leg_rules.specs.Route.Meets.{MeetsJoined, MeetsRest};
 ghost use Rattle.leg_rules.specs.Route.Run.{IsNextWalk, HasNoWalk};

@@ -8,7 +8,7 @@ ghost use Rattle.leg_design_records.specs.WellFormedNets.{IsWire};
 ghost use Rattle.leg_rules.specs.Route.Nodes.{IsNode};
 ghost use Rattle.leg_rules.specs.Route.Neighbours.{IsOver};
 ghost use Rattle.leg_rules.specs.Route.StepWires.{NodeAdds, IsLine, IsViaStep};
-ghost use Rattle.leg_route_access.specs.Steps.GridWalk.{IsGridWalk};
+ghost use Rattle.leg_rules.specs.Route.GridWalk.{IsGridWalk};
 ghost use Rattle.leg_rules.specs.Route.Spelling.{AreWiresOf};
 ghost use Rattle.leg_route_access.specs.Steps.FirstWire.{SpellsAll, BeginsWithWire};
 

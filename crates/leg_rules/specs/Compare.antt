@@ -4,3 +4,4 @@ pub mod Spelling
 pub mod Differences
 pub mod Order
 pub mod Verdicts
+pub mod EntryOrder

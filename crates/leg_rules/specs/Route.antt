@@ -4,6 +4,7 @@ pub mod Tracks
 pub mod Nodes
 pub mod Between
 pub mod Neighbours
+pub mod GridWalk
 pub mod StepWires
 pub mod OpenMetal
 pub mod Meets

@@ -5,6 +5,7 @@
 mod difference;
 mod grid_limits;
 mod node;
+mod other_order;
 mod owner;
 mod piece;
 mod position;
@@ -14,6 +15,7 @@ mod side;
 pub use difference::{Change, Difference, Part, Section, Verdict};
 pub use grid_limits::{GREATEST_GRID, GRID_LIMIT};
 pub use node::Node;
+pub use other_order::OtherOrder;
 pub use owner::Owner;
 pub use piece::Piece;
 pub use position::Candidate;

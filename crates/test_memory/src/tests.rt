@@ -2,6 +2,7 @@
 //! answer what they answer with ample memory.
 
 mod designs;
+mod refused_in_turn;
 mod texts;
 mod without;
 
@@ -10,10 +11,7 @@ use designs::DesignCall;
 use leg_lib_records::Library;
 use std::alloc::{Allocator, Global};
 use test_alloc::RefusingAlloc;
-use test_texts::{
-    around_an_obstruction, cells, every_form, net_at_one_place, two_at_one_place, wired,
-};
-use texts::TextCall;
+use test_texts::{around_an_obstruction, two_at_one_place, wired};
 
 /// What is tried under the library, on a DEF.
 #[derive(Clone, Copy)]
@@ -53,88 +51,6 @@ fn goes_right_under<A: Allocator + Copy>(
         Trial::Lend(call) => designs::goes_right(alloc, refusing, library, call, def),
         Trial::LendWithout(call) => designs::asks_for_none(alloc, refusing, library, call, def),
         Trial::Without => without::goes_right(alloc, refusing, library, def),
-    }
-}
-
-#[test]
-fn texts_without_memory(rt: HostRuntime) {
-    let refusing = &RefusingAlloc::new(rt.alloc());
-    for def in [
-        two_at_one_place(),
-        around_an_obstruction(),
-        net_at_one_place(),
-        every_form(),
-    ] {
-        assert!(rt; texts::goes_right(refusing, refusing, TextCall::Tokens, def));
-        assert!(rt; texts::goes_right(refusing, refusing, TextCall::DefUnits, def));
-        assert!(rt; goes_right(refusing, refusing, Trial::Read, def));
-    }
-}
-
-#[test]
-fn libraries_without_memory(rt: HostRuntime) {
-    let refusing = &RefusingAlloc::new(rt.alloc());
-    assert!(rt; texts::goes_right(refusing, refusing, TextCall::ReadLefs, cells()));
-    assert!(rt; texts::goes_right(refusing, refusing, TextCall::At, cells()));
-}
-
-#[test]
-fn metal_without_memory(rt: HostRuntime) {
-    let refusing = &RefusingAlloc::new(rt.alloc());
-    for def in [
-        two_at_one_place(),
-        around_an_obstruction(),
-        net_at_one_place(),
-        every_form(),
-    ] {
-        assert!(rt; goes_right(refusing, refusing, Trial::Lend(DesignCall::Flatten), def));
-    }
-    for def in [two_at_one_place(), net_at_one_place(), every_form()] {
-        assert!(rt;
-            goes_right(
-                refusing,
-                refusing,
-                Trial::Lend(DesignCall::SpacingFaults),
-                def
-            )
-        );
-    }
-}
-
-#[test]
-fn nets_without_memory(rt: HostRuntime) {
-    let refusing = &RefusingAlloc::new(rt.alloc());
-    for def in [
-        around_an_obstruction(),
-        net_at_one_place(),
-        wired(),
-        every_form(),
-    ] {
-        assert!(rt; goes_right(refusing, refusing, Trial::Lend(DesignCall::Joined), def));
-        assert!(rt; goes_right(refusing, refusing, Trial::Lend(DesignCall::Groups), def));
-        assert!(rt; goes_right(refusing, refusing, Trial::Lend(DesignCall::OpenFaults), def));
-        assert!(rt; goes_right(refusing, refusing, Trial::Lend(DesignCall::AddWire), def));
-    }
-}
-
-#[test]
-fn placement_and_printed_text_without_memory(rt: HostRuntime) {
-    let refusing = &RefusingAlloc::new(rt.alloc());
-    for def in [
-        two_at_one_place(),
-        around_an_obstruction(),
-        net_at_one_place(),
-        every_form(),
-    ] {
-        assert!(rt;
-            goes_right(
-                refusing,
-                refusing,
-                Trial::Lend(DesignCall::PlaceFaults),
-                def
-            )
-        );
-        assert!(rt; goes_right(refusing, refusing, Trial::Lend(DesignCall::PrintDef), def));
     }
 }
 

@@ -4,6 +4,7 @@
 mod changes;
 mod comparisons;
 mod no_rounds;
+mod refused_in_turn;
 mod two_nets;
 mod wires;
 
@@ -12,9 +13,7 @@ use leg_lib_records::Library;
 use std::alloc::{Allocator, Global};
 use test_alloc::RefusingAlloc;
 use test_memory::library_of_cells;
-use test_texts::{
-    around_an_obstruction, around_blockages, in_a_blockage, net_at_one_place, two_at_one_place,
-};
+use test_texts::{around_an_obstruction, around_blockages};
 use wires::WireCall;
 
 /// What is tried under the library, on the design of a DEF.
@@ -56,91 +55,9 @@ fn goes_right_under<A: Allocator + Copy>(
 }
 
 #[test]
-fn a_legaliser_without_memory(rt: HostRuntime) {
-    let refusing = &RefusingAlloc::new(rt.alloc());
-    for def in [two_at_one_place(), net_at_one_place()] {
-        assert!(rt;
-            goes_right(
-                refusing,
-                refusing,
-                Trial::Give(Change::Legalise(&[0, 400])),
-                def
-            )
-        );
-    }
-    assert!(rt;
-        goes_right(
-            refusing,
-            refusing,
-            Trial::Give(Change::Legalise(&[0, 0, 0])),
-            around_an_obstruction()
-        )
-    );
-    assert!(rt;
-        goes_right(
-            refusing,
-            refusing,
-            Trial::Give(Change::Legalise(&[0, 200])),
-            in_a_blockage()
-        )
-    );
-}
-
-#[test]
-fn a_router_without_memory(rt: HostRuntime) {
-    let refusing = &RefusingAlloc::new(rt.alloc());
-    for def in [around_an_obstruction(), around_blockages()] {
-        assert!(rt; goes_right(refusing, refusing, Trial::Give(Change::Route(0)), def));
-    }
-    // The inverters overlap, and so does the metal of their two signal pins.
-    for def in [two_at_one_place(), net_at_one_place()] {
-        assert!(rt; goes_right(refusing, refusing, Trial::Give(Change::Route(3)), def));
-    }
-    // The second inverter is in a blockage, and its pin touches another one.
-    assert!(rt;
-        goes_right(
-            refusing,
-            refusing,
-            Trial::Give(Change::Route(2)),
-            in_a_blockage()
-        )
-    );
-}
-
-#[test]
-fn a_router_that_finishes_without_memory(rt: HostRuntime) {
-    let refusing = &RefusingAlloc::new(rt.alloc());
-    for def in [around_an_obstruction(), around_blockages()] {
-        assert!(rt; goes_right(refusing, refusing, Trial::Give(Change::Finish(0)), def));
-    }
-    // The inverters overlap, and so does the metal of their two signal pins.
-    for def in [two_at_one_place(), net_at_one_place()] {
-        assert!(rt; goes_right(refusing, refusing, Trial::Give(Change::Finish(3)), def));
-    }
-}
-
-#[test]
 fn a_router_that_finishes_without_a_round(rt: HostRuntime) {
     let library = library_of_cells(rt.alloc()).expect(&rt, "memory");
     for def in [around_an_obstruction(), around_blockages()] {
         assert!(rt; no_rounds::is_left(rt.alloc(), &library, def));
     }
-}
-
-#[test]
-fn nets_get_wires_without_memory(rt: HostRuntime) {
-    let refusing = &RefusingAlloc::new(rt.alloc());
-    for call in [WireCall::WithWires, WireCall::WithAllWires] {
-        for def in [around_an_obstruction(), net_at_one_place()] {
-            assert!(rt; goes_right(refusing, refusing, Trial::Wire(call), def));
-        }
-        assert!(rt; goes_right(refusing, refusing, Trial::TwoNets(call), two_nets::TEXT));
-    }
-}
-
-#[test]
-fn differences_without_memory(rt: HostRuntime) {
-    let refusing = &RefusingAlloc::new(rt.alloc());
-    let library = &library_of_cells(refusing).expect(&rt, "memory");
-    assert!(rt; comparisons::are_told(refusing, refusing, library));
 }

@@ -2,11 +2,12 @@
 
 mod crowded;
 mod index;
-mod refused;
+mod refused_in_turn;
 mod rules;
 
+use crowded::of_two_classes;
 use leg_geom::Rect;
-use leg_sweep::{PairRule, pairs, pairs_counted, pairs_in_bands};
+use leg_sweep::{PairRule, each_pair, pairs, pairs_counted, pairs_in_bands};
 use rules::{Overlap, Shape, Within};
 use std::alloc::Global;
 use std::cell::Cell;
@@ -261,29 +262,50 @@ fn were_asked_once(asked: &[Cell<u32>], count: u64) -> bool {
     total == count
 }
 
-fn check_asked_once(rt: &impl Abort, alloc: Global, in_bands: bool) {
-    let shapes = crossed(rt, alloc, 75);
-    assert!(rt; shapes.len() == 150);
-    let asked = unasked(rt, alloc, 150 * 150);
-    let mut rule = Within::new(200, 150, &asked);
-    let found = if in_bands {
-        pairs_in_bands(alloc, &shapes, &mut rule)
-    } else {
-        pairs(alloc, &shapes, &mut rule)
+/// A search for the pairs of a rule.
+#[derive(Clone, Copy)]
+enum Search {
+    Pairs,
+    InBands,
+    Each,
+}
+
+/// That the search finds pairs among the shapes, and asks of some pairs, of each of them once.
+fn check_asked_once(rt: &impl Abort, alloc: Global, shapes: &[Shape], reach: u32, search: Search) {
+    let count = shapes.len();
+    assert!(rt; 0 < count && count <= 300);
+    let asked = unasked(rt, alloc, count * count);
+    let mut rule = Within::new(reach, count, &asked);
+    let found = match search {
+        Search::Pairs => pairs(alloc, shapes, &mut rule),
+        Search::InBands => pairs_in_bands(alloc, shapes, &mut rule),
+        Search::Each => {
+            let mut found = Vec::new(alloc);
+            each_pair(alloc, shapes, &mut rule, &mut found).map(|()| found)
+        }
     };
     let found = found.expect(rt, "memory");
-    let tests = rule.tests();
-    assert!(rt; were_asked_once(&asked, tests) && !found.is_empty() && tests < 150 * 149 / 2);
+    let (tests, all) = (rule.tests(), (count * (count - 1) / 2) as u64);
+    assert!(rt; were_asked_once(&asked, tests) && !found.is_empty() && tests < all);
 }
 
 #[test]
 fn asked_once(rt: HostRuntime) {
-    check_asked_once(&rt, rt.alloc(), false);
-    check_asked_once(&rt, rt.alloc(), true);
+    for search in [Search::Pairs, Search::InBands, Search::Each] {
+        for (count, reach) in [(3, 400), (9, 800)] {
+            let few = scattered(&rt, rt.alloc(), count, 1);
+            check_asked_once(&rt, rt.alloc(), &few, reach, search);
+        }
+        let many = crossed(&rt, rt.alloc(), 75);
+        check_asked_once(&rt, rt.alloc(), &many, 200, search);
+        // Here bands have many items that wait.
+        let waiting = of_two_classes(&rt, rt.alloc(), 300, 1);
+        check_asked_once(&rt, rt.alloc(), &waiting, 2, search);
+    }
 }
 
-#[test]
-fn wide(rt: HostRuntime) {
+/// That none of a million rectangles overlaps another, and that this takes no test and few looks.
+fn check_wide(rt: &impl Abort, alloc: Global, rects: &[Rect]) {
     static NONE: Overlapping = Overlapping {
         pairs: &[],
         tests: 0,
@@ -295,14 +317,31 @@ fn wide(rt: HostRuntime) {
         tests: 0,
         looks: 1_000_000 + 1_000_000 / 32,
     };
+    assert!(rt; rects.len() == 1_000_000);
+    check_overlaps(rt, alloc, rects, false, &NONE);
+    check_overlaps(rt, alloc, rects, true, &NONE_IN_BANDS);
+}
+
+#[test]
+fn wide(rt: HostRuntime) {
+    let mut cells = Vec::new(rt.alloc());
+    for place in 0..1_000_000u32 {
+        let left = i64::from(4 * place);
+        let cell = rect(&rt, (left, 0, left + 2, 2));
+        cells.push(cell).expect(&rt, "memory");
+    }
+    check_wide(&rt, rt.alloc(), &cells);
+}
+
+#[test]
+fn wide_from_right_to_left(rt: HostRuntime) {
     let mut cells = Vec::new(rt.alloc());
     for place in 0..1_000_000u32 {
         let left = i64::from(100 * (999_999 - place));
         let cell = rect(&rt, (left, 0, left + 50, 10));
         cells.push(cell).expect(&rt, "memory");
     }
-    check_overlaps(&rt, rt.alloc(), &cells, false, &NONE);
-    check_overlaps(&rt, rt.alloc(), &cells, true, &NONE_IN_BANDS);
+    check_wide(&rt, rt.alloc(), &cells);
 }
 
 /// Two tall rectangles, and a row of small ones side by side, on which the tall ones stand.

@@ -10,27 +10,30 @@ use Rattle.leg_route_laws.specs.CleanWire.{HasNoSpacingFault}
 use Rattle.leg_route_laws.specs.FinishedDesign.{AreByNet}
 use Rattle.leg_route_laws.specs.Growth.{AddedWire, Grows, of_net}
 use Rattle.leg_rules.specs.Finish.Refusal.{ComesToSearch}
+use Rattle.leg_rules.specs.Finish.Wires.{AreWiresOfWalks}
 
 -- the flat has no shorts and no shapes too near one another, and no net of the design is open in it
 pub record HasNoMetalFault (design : DesignModel) (flat : FlatModel) : Type 0 where
   pub spacing : HasNoSpacingFault design.library flat
   pub joined : (n : ℕ) → ¬ IsOpenNet design flat n
 
--- The second flat is the first one that grew by wires that DEF can spell, and the lists have these wires, one list for each entry of
--- NETS. Only nets that were open got some.
+-- The second flat is the first one that grew by wires of walks over the grid, which DEF can spell, and the lists have these wires, one
+-- list for each entry of NETS. Only nets that were open got some.
 pub record IsLaidOut (design : DesignModel) (before after : FlatModel) (lists : List (List Wire)) : Type 0 where
   pub added : List AddedWire
   pub grows : Grows design added before after
   pub by_net : AreByNet (length design.nets) added lists
+  pub walks : All (AreWiresOfWalks design) lists
   pub spelled : All (All (IsWire design.library design.vias false)) lists
   pub open_only : (n : ℕ) (wires : List Wire) → slice_get lists n ≡ Some wires → wires ≢ [] → IsOpenNet design before n
 
--- one net more: the flat grew by wires of it, which its list has after those that it had
+-- one net more: the flat grew by wires of walks of it, which its list has after those that it had
 pub record IsMoreLaid (design : DesignModel) (net : ℕ) (before after : FlatModel) (lists more : List (List Wire)) : Type 0 where
   pub had : List Wire
   pub wires : List Wire
   pub there : slice_get lists net ≡ Some had
   pub is : more ≡ slice_set lists net (had ++ wires)
+  pub walks : AreWiresOfWalks design wires
   pub spelled : All (IsWire design.library design.vias false) wires
   pub grows : Grows design (of_net net wires) before after
 

@@ -156,6 +156,9 @@ fn the_squared_gap_is_that_of_the_nearest_points(rt: HostRuntime) {
     ] {
         assert!(rt; gap2(&CELL, &other) == Some(found));
     }
+    let low = [-1_000_000_000, -1_000_000_000, -999_999_999, -999_999_999];
+    let high = [999_999_999, 999_999_999, 1_000_000_000, 1_000_000_000];
+    assert!(rt; gap2(&low, &high) == Some(7_999_999_984_000_000_008));
     let low = [
         -10_000_000_000,
         -10_000_000_000,

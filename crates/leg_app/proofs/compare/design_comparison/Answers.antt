@@ -14,7 +14,7 @@ returns-then-units g c =
     let after = c.args.after.now in
     let same = c.if-units.true ∙ c.units.ensures in
     IfOk-weaker c.second_comparison.result _ _
-    (λ answer all before just says. all lefs before (say_design lefs before library c.args.first.now just says)
+    (λ answer all before just says. all lefs before just says
     (just_other lefs before after library (subst (Denotes units_in after) same c.in-Ok.ensures.units) just))
     (rw c.in-Ok.ensures.text at c.second_comparison.ensures)
 

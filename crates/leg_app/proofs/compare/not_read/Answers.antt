@@ -1,7 +1,8 @@
 use Rattle.std.proofs.Common.{◌≢◌, inl}
 use Rattle.leg_lex.specs.declared.read_fault.FaultKind.TheVariants as kinds
 use Rattle.leg_app.specs.Comparison.{printed_number}
-use Rattle.leg_app.proofs.Comparisons.{nothing_of}
+use Rattle.leg_app.specs.declared.status.Status.TheVariants.{Refused}
+use Rattle.leg_app.proofs.Comparisons.{nothing_of, tells_none}
 use Rattle.leg_app.proofs.compare.not_read.Goals as goal
 
 pub returns : goal.returns
@@ -17,4 +18,5 @@ returns g c = λ lefs before after refused of_master.
             reason = inl (record { fault = record fault { file = printed_number c.args.side fault.file }; not_memory = not_memory; is = told });
           };
       explains = (tt, (not_memory, told), record { nothing = nothing; of_library = of_master not_memory });
+      tells = tells_none lefs before after Refused (λ no. cc);
     })

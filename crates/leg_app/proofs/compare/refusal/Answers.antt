@@ -1,7 +1,8 @@
 use Rattle.std.proofs.Common.{◌≢◌, inr}
 use Rattle.std.proofs.lemmas.Result.{IfOk-weaker}
 use Rattle.leg_lib_records.specs.declared.scale_fault.ScaleKind.TheVariants as scale
-use Rattle.leg_app.proofs.Comparisons.{nothing_of}
+use Rattle.leg_app.specs.declared.status.Status.TheVariants.{Refused}
+use Rattle.leg_app.proofs.Comparisons.{nothing_of, tells_none}
 use Rattle.leg_app.proofs.compare.refusal.Goals as goal
 
 pub returns-in-Read : goal.returns-in-Read
@@ -23,4 +24,5 @@ returns-in_ok-text-in-Scale g c = λ lefs before after refused units of_master.
             (record { name = fault.name; kind = fault.kind; not_memory = not_memory; is = told });
       };
       explains = (tt, (not_memory, told), record { nothing = nothing; units_are = rw c.in-Scale.is at units });
+      tells = tells_none lefs before after Refused (λ no. cc);
     })

@@ -10,6 +10,7 @@ returns-in_ok-text-in-Ok-clause-is g c = record {
     legal = c.in-Ok.ensures.legal;
     same = c.in-Ok.ensures.same;
     open_only = c.in-Ok.ensures.open_only;
+    walks = c.in-Ok.ensures.walks;
     proper = c.design_is_sound.ensures.proper;
     sound = c.design_is_sound.ensures.library;
   };

@@ -1,4 +1,4 @@
-use Rattle.std.proofs.Common.{◌≡◌, ℕ, List, ◌++◌, length, codes, sym, ap, ◌∙◌, append_assoc}
+use Rattle.std.proofs.Common.{◌≡◌, ℕ, List, ◌++◌, length, codes, refl, sym, ap, ◌∙◌, append_assoc}
 use Rattle.std.specs.Prelude.{decimal}
 use Rattle.std.specs.List.{flat_map}
 use Rattle.leg_flat.proofs.OneFlat.{one_flat}
@@ -36,6 +36,30 @@ returns-in_ok-text-in-Unreachable-clause-tells g c =
       ← same,
     ) at c.in_ok-text-in-Unreachable.ensures in
     rw c.unsolved-in-Unreachable.ensures (unreachable why.1 why.2 told)
+
+pub returns-in_ok-text-in-Unreachable-clause-explains : goal.returns-in_ok-text-in-Unreachable-clause-explains
+returns-in_ok-text-in-Unreachable-clause-explains g c =
+    let why = rw c.in-Unreachable.is at c.requires in
+    let flat = c.in_ok-flat-in-Unreachable.flat in
+    let same : why.0 ≡ flat = one_flat c.args.design.now why.0 flat why.1.clean.judged.is_flat c.in_ok-flat-in-Unreachable.ensures in
+    let told = rw (c.as_slice-in-Unreachable.ensures, c.as_slice-in-Unreachable-2.ensures) at c.in_ok-text-in-Unreachable.ensures in
+    rw c.unsolved-in-Unreachable.ensures (
+      tt,
+      told,
+      (
+        c.args.design.now,
+        refl,
+        record {
+          net = _;
+          number = _;
+          flat = why.0;
+          comes = why.1;
+          is_first = why.2;
+          named = c.in_ok-net-in-Unreachable.ensures ∙ c.net_name.ensures;
+          is = rw (← same) at c.in_ok-piece-in-Unreachable.ensures;
+        },
+      ),
+    )
 
 pub returns-in_ok-text-in-Unfinished-clause-tells : goal.returns-in_ok-text-in-Unfinished-clause-tells
 returns-in_ok-text-in-Unfinished-clause-tells g c =

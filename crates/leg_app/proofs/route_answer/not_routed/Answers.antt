@@ -1,3 +1,4 @@
+use Rattle.std.proofs.Common.{◌∙◌}
 use Rattle.leg_app.specs.RouteResult.ReportsNotRouted.{not_clean, grid_too_large, unroutable, too_many}
 use Rattle.leg_app.proofs.route_answer.not_routed.Goals as goal
 
@@ -19,6 +20,26 @@ returns-in_ok-text-in-Unroutable-clause-tells g c =
     let why = rw c.in-Unroutable.is at c.requires in
     rw c.unsolved-in-Unroutable.ensures (unroutable why.1 why.2
     (rw (c.as_slice-in-Unroutable.ensures, c.in_ok-net-in-Unroutable.ensures, c.net_name.ensures) at c.in_ok-text-in-Unroutable.ensures))
+
+pub returns-in_ok-text-in-Unroutable-clause-explains : goal.returns-in_ok-text-in-Unroutable-clause-explains
+returns-in_ok-text-in-Unroutable-clause-explains g c =
+    let why = rw c.in-Unroutable.is at c.requires in
+    rw c.unsolved-in-Unroutable.ensures (λ command before stage limit routed. (
+      tt,
+      rw c.as_slice-in-Unroutable.ensures at c.in_ok-text-in-Unroutable.ensures,
+      (
+        c.args.design.now,
+        routed,
+        record {
+          net = _;
+          flat = why.0;
+          comes = why.1;
+          unroutable = why.2;
+          named = c.in_ok-net-in-Unroutable.ensures ∙ c.net_name.ensures;
+          cut_off = c.in_ok-piece-in-Unroutable.ensures;
+        },
+      ),
+    ))
 
 pub returns-in_ok-text-in-TooMany-clause-tells : goal.returns-in_ok-text-in-TooMany-clause-tells
 returns-in_ok-text-in-TooMany-clause-tells g c =

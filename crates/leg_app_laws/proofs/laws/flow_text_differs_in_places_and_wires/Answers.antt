@@ -1,5 +1,5 @@
 use Rattle.std.proofs.Common.{ap, ◌∙◌}
-use Rattle.leg_app_laws.proofs.LastLines.{both_answered}
+use Rattle.leg_app_laws.proofs.ComparisonLines.{both_answered}
 use Rattle.leg_app_laws.proofs.PrintedDifferences.{said_well_formed, said_under}
 use Rattle.leg_app_laws.proofs.laws.flow_text_differs_in_places_and_wires.Goals as goal
 

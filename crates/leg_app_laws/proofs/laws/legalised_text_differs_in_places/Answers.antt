@@ -1,5 +1,5 @@
 use Rattle.std.proofs.Common.{ap}
-use Rattle.leg_app_laws.proofs.LastLines.{places_answered}
+use Rattle.leg_app_laws.proofs.ComparisonLines.{places_answered}
 use Rattle.leg_app_laws.proofs.PrintedDifferences.{said_well_formed, said_under}
 use Rattle.leg_app_laws.proofs.laws.legalised_text_differs_in_places.Goals as goal
 

@@ -1,5 +1,5 @@
 use Rattle.std.proofs.Common.{ap}
-use Rattle.leg_app_laws.proofs.LastLines.{wires_answered}
+use Rattle.leg_app_laws.proofs.ComparisonLines.{wires_answered}
 use Rattle.leg_app_laws.proofs.PrintedDifferences.{said_well_formed, said_under}
 use Rattle.leg_app_laws.proofs.laws.routed_text_differs_in_wires.Goals as goal
 

@@ -1,5 +1,7 @@
-use Rattle.std.proofs.Common.{inl, inr}
+use Rattle.std.proofs.Common.{inl, inr, subst}
 use Rattle.std.proofs.lemmas.Result.{IfOk-weaker}
+use Rattle.leg_grammar.specs.Lef.Library.{DenoteLibrary}
+use Rattle.leg_app_message.specs.Texts.{TextsModel}
 use Rattle.leg_app_message.proofs.scaling.scale_message.Goals as goal
 
 pub returns-in-Some : goal.returns-in-Some
@@ -15,10 +17,13 @@ returns-in-Some g c =
       words = there.0;
       are = there.1;
       there = there.2;
+      library = c.in-Ok.library;
+      of_lefs = subst (λ (t : TextsModel). DenoteLibrary t.lefs c.in-Ok.library) c.texts.view_is c.in-Ok.ensures.found;
+      kept = c.in-Some.ensures.kept;
       has = c.in-Some.ensures.has;
       is = is;
     }))
     c.written_message.ensures
 
 pub returns : goal.returns
-returns g c = IfOk-weaker c.name_message.result _ _ (λ m is. inr is) c.name_message.ensures
+returns g c = IfOk-weaker c.name_message-2.result _ _ (λ m is. inr is) c.name_message-2.ensures

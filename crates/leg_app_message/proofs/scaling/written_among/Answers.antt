@@ -5,7 +5,7 @@ use Rattle.leg_app_message.proofs.Forms.{begins_with}
 use Rattle.leg_app_message.proofs.scaling.written_among.Goals as goal
 
 pub returns-clause-there : goal.returns-clause-there
-returns-clause-there c =
+returns-clause-there g c =
     let name = c.args.fault.now.name in
     let words = c.args.words.now in
     let form : Word = record { text = c.form.inside.text.now; line = c.form.inside.line } in
@@ -15,3 +15,6 @@ returns-clause-there c =
       begins_with name words c.from_form-rest.result.now form form rest c.in-len1-up.len_at_least first,
       rw (of, ← c.length.view_is) at c.in_ok-length.ensures.there,
     )
+
+pub returns-clause-kept : goal.returns-clause-kept
+returns-clause-kept g c = rw (← c.length.view_is) at c.in_ok-length.ensures.kept

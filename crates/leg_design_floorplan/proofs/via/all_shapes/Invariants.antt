@@ -5,4 +5,4 @@ use Rattle.leg_design_floorplan.proofs.via.all_shapes.Given as goal
 
 abbrev pub invariant-loop-i : goal.invariant-loop-i
 invariant-loop-i g l =
-    over (via_clause l.library) l.shapes.items (drop l.i l.clauses) ≡ over (via_clause l.library) [] l.clauses
+    over (via_clause l.library) l.shapes (drop l.i l.clauses) ≡ over (via_clause l.library) [] l.clauses

@@ -9,6 +9,7 @@ use Rattle.leg_sweep.proofs.GridSums.{sum_by-map}
 use Rattle.leg_finish_search.proofs.Elements.{all_before}
 use Rattle.leg_finish.proofs.WithWires.{few_shapes, few_wires, few_added, legal_then}
 use Rattle.leg_finish.proofs.AddedWires.{adds_to_open, have_totals}
+use Rattle.leg_finish.proofs.WalkWires.{adds_walks}
 use Rattle.leg_finish.proofs.finishing.add_all.Goals as goal
 
 pub totals_of-totals-requires : goal.totals_of-totals-requires
@@ -47,6 +48,11 @@ returns-in-Ok-clause-open_only g c =
     let it = c.requires in
     let lists = map (λ wires. wires.items) c.args.lists.items in
     rw c.in-Ok.ensures.added (adds_to_open c.design_has_one_flat.ensures c.args.design lists it.flat it.comes.clean.judged.is_flat it.laid.open_only)
+
+pub returns-in-Ok-clause-walks : goal.returns-in-Ok-clause-walks
+returns-in-Ok-clause-walks g c =
+    let laid = c.requires.laid in
+    rw c.in-Ok.ensures.added (adds_walks c.args.design (map (λ wires. wires.items) c.args.lists.items) laid.by_net.one_each laid.walks)
 
 pub returns-in-Ok-clause-totals : goal.returns-in-Ok-clause-totals
 returns-in-Ok-clause-totals g c =

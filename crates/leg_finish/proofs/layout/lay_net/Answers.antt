@@ -14,6 +14,7 @@ returns-clause-laid g c = λ yes.
       there = slice_get-map (λ wires. wires.items) lists c.args.net ∙ ap (option_map (λ wires. wires.items)) there;
       is = map-set (λ wires. wires.items) lists c.args.net c.append.new.self
           ∙ ap (λ ws. set (map (λ wires. wires.items) lists) c.args.net ws) c.in_ok-append.ensures.items;
-      spelled = rw c.in-Some.is at c.in_ok-wires.ensures;
+      walks = rw c.in-Some.is at c.in_ok-wires.ensures.walks;
+      spelled = rw c.in-Some.is at c.in_ok-wires.ensures.spelled;
       grows = rw c.deref.ensures.value at c.in-Ok.ensures.grows;
     }

@@ -1,7 +1,7 @@
 use Rattle.std.proofs.Common.{◌++◌, false, List, All, length}
 use Rattle.leg_design_records.specs.declared.records.Wire.{Wire}
 use Rattle.leg_design_records.specs.WellFormedNets.{IsWire}
-use Rattle.leg_route_access.specs.Steps.GridWalk.{IsGridWalk}
+use Rattle.leg_rules.specs.Route.GridWalk.{IsGridWalk}
 use Rattle.leg_route_access.specs.Steps.FirstWire.{SpellsAll}
 use Rattle.leg_route_access.proofs.spelling.wires_of_steps.Given as goal
 

@@ -1,6 +1,6 @@
--- The verdict on what differs between a DEF and what a command has printed of it.
+-- What differs between a DEF and what a command has printed of it, and the verdict on it.
 use Rattle.std.proofs.Common.{◌≡◌, ℕ, ◌<◌, ◌⊎◌, List, [], ◌∷◌, inl, inr, refl, sym, ap, ◌∙◌, subst, arith}
-use Rattle.std.specs.List.{All, flat_map}
+use Rattle.std.specs.List.{All}
 use Rattle.std.proofs.lemmas.List.Elements.{All-weaker, All-head, All-tail}
 use Rattle.leg_lib_records.specs.Records.{LibraryModel}
 use Rattle.leg_design_records.specs.Records.{DesignModel}
@@ -14,9 +14,8 @@ use Rattle.leg_compare.proofs.Counts.{OfAKind, not_both}
 use Rattle.leg_app.specs.declared.status.Status.{Status}
 use Rattle.leg_app.specs.declared.status.Status.TheVariants.{Success, Violations, Refused, Unsolved, Memory}
 use Rattle.leg_grammar.specs.Texts.{DenoteDesign}
-use Rattle.leg_output.specs.Commands.Compare.{difference_line}
 use Rattle.leg_app.specs.Comparison.{Compares}
-use Rattle.leg_app_laws.specs.LastLine.{IsOfPlaces, IsOfWires, IsOfPlacesAndWires, EndsAs, AnswersAs}
+use Rattle.leg_app_laws.specs.Lines.{IsOfPlaces, IsOfWires, IsOfPlacesAndWires, ComparesAs, AnswersAs, AnswersPlaces, AnswersWires, AnswersPlacesAndWires}
 
 -- where all elements have a property that excludes another, none has that one
 none_so : {X : Type 0} (P Q : X → Type 0) → ((x : X) → Q x → P x → ⊥) → (xs : List X) (n : ℕ) → All Q xs → HasSoMany P xs n → n ≡ 0
@@ -63,18 +62,20 @@ SayOneDesign = (lefs : List (List ℕ)) (def : List ℕ) (library other : Librar
 
 module _ (one : SayOneDesign) (lefs : List (List ℕ)) (before after : List ℕ) (library : LibraryModel) (first second : DesignModel)
     (say_first : DenoteDesign lefs before library first) (say_second : DenoteDesign lefs after library second) where
-  module _ (IsSuch : Verdict → Type 0) (suits : (list : List Difference) (v : Verdict) → AreAllDifferences first second list → IsVerdict first list v
-      → IsSuch v) where
-    of_compared : (status : Status) (text : List ℕ) → Compares lefs before after status text → EndsAs IsSuch text
+  -- each difference is such a one, and where each of a list is, the verdict on it is such a one
+  module _ (IsOne : DesignModel → Difference → Type 0) (IsLast : Verdict → Type 0) (only : (d : Difference) → IsDifference first second d → IsOne first d)
+      (suits : (list : List Difference) (v : Verdict) → All (IsOne first) list → IsVerdict first list v → IsLast v) where
+    of_compared : (status : Status) (text : List ℕ) → Compares lefs before after status text → ComparesAs IsOne IsLast lefs before after status text
     of_compared status text c =
         let firsts : c.first ≡ first = (one lefs before c.library library c.first first c.say_first say_first).1 in
         let seconds : c.second ≡ second = (one lefs after c.library library c.second second c.say_second say_second).1 in
         let all : AreAllDifferences first second c.list =
         subst (λ d. AreAllDifferences first d c.list) seconds (subst (λ d. AreAllDifferences d c.second c.list) firsts c.all) in
         let judged : IsVerdict first c.list c.verdict = subst (λ d. IsVerdict d c.list c.verdict) firsts c.judged in
-        record { verdict = c.verdict; such = suits c.list c.verdict all judged; lines = flat_map (difference_line c.first c.second) c.list; is = c.is }
+        let each : All (IsOne first) c.list = All-weaker (IsDifference first second) (IsOne first) only c.list all.each in
+        record { compares = c; each = subst (λ d. All (IsOne d) c.list) (sym firsts) each; last = suits c.list c.verdict each judged }
 
-    answers_as : AnswersAs IsSuch lefs before after
+    answers_as : AnswersAs IsOne IsLast lefs before after
     answers_as Success text c kept = of_compared Success text c
     answers_as Violations text (inl c) kept = of_compared Violations text c
     answers_as Violations text (inr u) kept =
@@ -88,15 +89,11 @@ module _ (one : SayOneDesign) (lefs : List (List ℕ)) (before after : List ℕ)
     answers_as Unsolved text none kept = absurd none
     answers_as Memory text is kept = absurd (kept refl)
 
-  pub places_answered : ((d : Difference) → IsDifference first second d → IsMove first d) → AnswersAs IsOfPlaces lefs before after
-  places_answered only =
-      answers_as IsOfPlaces (λ list v all judged. of_places first list v (All-weaker (IsDifference first second) (IsMove first) only list all.each) judged)
+  pub places_answered : ((d : Difference) → IsDifference first second d → IsMove first d) → AnswersPlaces lefs before after
+  places_answered only = answers_as IsMove IsOfPlaces only (of_places first)
 
-  pub wires_answered : ((d : Difference) → IsDifference first second d → IsGrowth d) → AnswersAs IsOfWires lefs before after
-  wires_answered only =
-      answers_as IsOfWires (λ list v all judged. of_wires first list v (All-weaker (IsDifference first second) IsGrowth only list all.each) judged)
+  pub wires_answered : ((d : Difference) → IsDifference first second d → IsGrowth d) → AnswersWires lefs before after
+  wires_answered only = answers_as (λ f d. IsGrowth d) IsOfWires only (of_wires first)
 
-  pub both_answered : ((d : Difference) → IsDifference first second d → IsMove first d ⊎ IsGrowth d) → AnswersAs IsOfPlacesAndWires lefs before after
-  both_answered only =
-      answers_as IsOfPlacesAndWires (λ list v all judged. of_both first list v
-      (All-weaker (IsDifference first second) (λ d. IsMove first d ⊎ IsGrowth d) only list all.each) judged)
+  pub both_answered : ((d : Difference) → IsDifference first second d → IsMove first d ⊎ IsGrowth d) → AnswersPlacesAndWires lefs before after
+  both_answered only = answers_as (λ f d. IsMove f d ⊎ IsGrowth d) IsOfPlacesAndWires only (of_both first)
