@@ -222,18 +222,206 @@ class LemmaTests(DoctoredTests):
         self.assertEqual(self.found(('crates/leg_geom/proofs/sum/Answers.antt', text)), {'crates/leg_geom/proofs/sum/Answers.antt:4: nothing names less'})
 
 
-class WidthTests(DoctoredTests):
-    """Lines of specs/ and proofs/."""
+NEW = 'crates/leg_geom/src/new.rt'
+FIRST = """/// The lower of two sums.
+fn least<'a, A: Allocator>(text: &'a mut Vec<u8, A>, low: &Point, high: i64) -> Result<i64, AllocError>
+    requires { low.now.x ≡ high }
+{
+    'all: for byte in text {
+        if *byte == b' ' {
+            break 'all;
+        }
+    }
+    let Point { x, y } = low;
+    Ok((x + high).min(y + high)) // (they are close)
+}
+"""
+SECOND = """fn most<B: Allocator + Copy>(line: &mut Vec<u8, B>, point: &Point, least: i64) -> Result<i64, AllocError> {
+    for letter in line {
+        if *letter == b' ' { break; }
+    }
+    let Point { x: left, y: bottom } = point;
+    Ok((left + least).min(bottom + least))
+}
+"""
+SAME = 'does what least of crates/leg_geom/src/new.rt:2 does'
+
+
+class BodyTests(DoctoredTests):
+    """Functions that are there twice."""
+    crates = ('leg_lemmas', 'leg_lex', 'leg_geom', 'leg_sweep')
+
+    def setUp(self):
+        super().setUp()
+        self.copy.edit('crates/leg_geom/src/lib.rt', 'mod span;\n', 'mod span;\nmod new;\n')
+
+    def found(self, *texts):
+        """Returns what the check says where these texts are the new file of leg_geom."""
+        self.copy.write(NEW, '\n'.join(texts))
+        return said(docs.check_bodies, self.copy)
+
+    def test_there_is_none(self):
+        self.assertEqual(printed(docs.check_bodies, docs.Repository(docs.HERE)), set())
+
+    def test_other_names_and_other_lifetimes_bounds_and_comments(self):
+        self.assertEqual(self.found(FIRST, SECOND), {f'{NEW}:14: most {SAME}'})
+
+    def test_what_makes_a_difference(self):
+        for old, new in (('.min(', '.max('), ("b' '", "b'#'"), ('x: left, y: bottom', 'y: left, x: bottom'), ('&Point, least', '&Rect, least'),
+                         ('bottom + least', 'left + least'), ('&mut Vec', '&Vec')):
+            with self.subTest(new=new):
+                self.assertEqual(self.found(FIRST, SECOND.replace(old, new)), set())
+
+    def test_a_method_and_a_function(self):
+        method = 'impl Rect {\n    fn is_square(&self, by: i64) -> bool {\n        self.x2() - self.x1() == by\n    }\n}\n'
+        function = 'fn has_width(rect: &Rect, w: i64) -> bool {\n    rect.x2() - rect.x1() == w\n}\n'
+        self.assertEqual(self.found(method, function), {f'{NEW}:7: has_width does what is_square of {NEW}:2 does'})
+
+    def test_types_of_one_name(self):
+        path, function = 'crates/leg_sweep/src/bounds.rt', 'fn width(bounds: &Bounds) -> i64 {\n    bounds.x2 - bounds.x1\n}\n'
+        self.copy.write(path, f'{self.copy.read(path)}\n{function}')
+        line = self.copy.read(path).count('\n') - 2
+        self.assertEqual(self.found(f'struct Bounds;\n\n{function}'), set())
+        self.assertEqual(self.found(f'use leg_sweep::Bounds;\n\n{function}'), {f'{path}:{line}: width does what width of {NEW}:3 does'})
+
+    def test_the_same_clauses_in_two_crates(self):
+        clause = '    ensures { IsTrue result ↔ (k : ℕ) → HasPlace rect.now k }\n'
+        one = f'fn has_all(rect: &Rect) -> bool\n{clause}{{\n    rect.x1() < 0 && rect.x2() > 0\n}}\n'
+        other = one.replace('rect', 'other').replace('has_all', 'holds').replace('k', 'n').replace('> 0', '>= 1')
+        self.assertEqual(self.found(one, other), set())
+        path = 'crates/leg_sweep/src/bounds.rt'
+        self.copy.write(path, f'{self.copy.read(path)}\n{other}')
+        line = self.copy.read(path).count('\n') - 4
+        self.assertEqual(self.found(one), {f'{path}:{line}: holds does what has_all of {NEW}:1 does'})
+
+    def test_small_bodies_and_laws_are_free(self):
+        for body in ('rect.x1()', 'rect.x1', 'b"x"', 'leg_lex::left(rect, 2)?', 'a == b', ''):
+            self.assertEqual(self.found(*(f'fn f{n}(rect: &Rect) -> i64 {{\n    {body}\n}}\n' for n in (1, 2))), set())
+        law = 'pub fn law()\n    ensures { 1 ≡ 1 }\n{\n    first_law();\n    second_law();\n}\n'
+        self.assertEqual(self.found(law, law.replace('law()', 'lemma()')), set())
+        self.assertNotEqual(self.found(*(f'fn f{n}(a: &Rect, b: &Rect) -> bool {{\n    *a == *b\n}}\n' for n in (1, 2))), set())
+
+
+class ImportTests(DoctoredTests):
+    """Names that sources import."""
     crates = ('leg_geom',)
+    parts = ('crates/leg_geom/proofs',)
+
+    def found(self, path, text):
+        """Returns the names that the check finds in a new file of leg_geom."""
+        path = f'crates/leg_geom/{path}'
+        self.copy.write(path, text)
+        said_of_it = re.compile(rf'{re.escape(path)}:(\d+): it imports (.*), and does not name it again')
+        found = [said_of_it.fullmatch(line) for line in said(docs.check_imports, self.copy)]
+        self.copy.remove(path)
+        self.assertTrue(all(found))
+        return {(int(it[1]), it[2]) for it in found}
+
+    def test_the_code_names_none_that_is_for_clauses(self):
+        self.assertEqual(said(docs.check_imports, self.copy), set())
+        use = '// Some numbers.\nghost use Rattle.std.specs.Prelude.{◌≡◌, ◌+◌, Some, length as count};\n'
+        code = '/// `count`\nfn sum(a: u8) -> Option<u8>\n    ensures { %s }\n{\n    count("≡"); Some(a + 1)\n}\n'
+        self.assertEqual(self.found('src/new.rt', use + code % 'IfSome result (λ a. 0 ≤ a)'), {(2, '◌≡◌'), (2, '◌+◌'), (2, 'Some'), (2, 'length')})
+        self.assertEqual(self.found('src/new.rt', use + code % 'result ≡ Some (count [] + 1)'), set())
+
+    def test_fields_and_values_of_parameters_name_none(self):
+        use = 'ghost use Rattle.std.specs.Prelude.{length, sum};\n'
+        for clause, names in (('a.length ≤ sum.now', {(1, 'length'), (1, 'sum')}), ('(length a) ≤ (sum a)', set())):
+            self.assertEqual(self.found('src/new.rt', f'{use}fn sum(a: u8)\n    requires {{ {clause} }}\n{{}}\n'), names)
+
+    def test_ghost_items_name_what_they_have(self):
+        use = 'ghost use Rattle.std.specs.Prelude.{ℕ, length, sum};\n'
+        item = 'ghost count: { ℕ } = { %s };'
+        clause = 'fn f()\n    ghost n: { ℕ }\n    requires few { length n ≤ sum n }\n{}'
+        for text, names in ((item % 'length []', {(1, 'sum')}), (item % 'length sum', set()), (clause, set())):
+            self.assertEqual(self.found('src/new.rt', f'{use}{text}\n'), names)
+
+    def test_definitions_and_lemmas(self):
+        use = '-- a sum\nuse Rattle.std.specs.Prelude.{ℕ, ◌+◌, if◌then◌else◌}\nuse Rattle.leg_lex.specs.Words.{◌>>=◌, end_at as ends}\n'
+        for text, names in (('n : ℕ', {(2, '◌+◌'), (2, 'if◌then◌else◌'), (3, '◌>>=◌'), (3, 'end_at')}),
+                            ('n : ℕ\nn = if a then ends else 1 + 1 -- do', {(3, '◌>>=◌')}), ('n : ℕ\nn = (if a then ends else (do\n  n) + 1)', set()),
+                            ('n : ℕ → (◌+◌ a)\nn = ◌>>=◌ {B = ℕ} ends if◌then◌else◌', set())):
+            for path in ('specs/New.antt', 'proofs/New.antt'):
+                self.assertEqual(self.found(path, f'{use}\n{text}\n'), names)
+        self.assertEqual(self.found('proofs/New.antt', 'pub use Rattle.std.specs.Prelude.{ℕ, ◌+◌}\nuse Rattle.leg_lex.specs.Words.{}\n'), set())
+
+    def test_lists_over_several_lines(self):
+        use = 'use Rattle.std.specs.Prelude.{\n  length,\n  sum,\n}'
+        for path, text in (('src/new.rt', f'ghost {use};\n'), ('proofs/New.antt', f'{use}\n')):
+            self.assertEqual(self.found(path, text), {(2, 'length'), (3, 'sum')})
+
+    def test_modules(self):
+        for last, name, use in (('Sum', 'Sum', 'use Rattle.leg_geom.specs.Sum'), ('Goals', 'goal', 'use Rattle.leg_geom.proofs.sum.Goals as goal')):
+            for text, names in ((f'new-is : {name}.new-is', set()), ('new-is : c.goal.sum', {(1, last)})):
+                self.assertEqual(self.found('proofs/New.antt', f'{use}\n{text}\n'), names)
+        use = 'ghost use Rattle.leg_geom.specs.Line as line;\n'
+        for clause, names in (('line.between a', set()), ('a.line.now', {(1, 'Line')})):
+            self.assertEqual(self.found('src/new.rt', f'{use}fn f(a: u8)\n    requires {{ {clause} }}\n{{ line.f() }}\n'), names)
+
+
+class LibraryTests(DoctoredTests):
+    """Libraries that crates.txt has for a crate."""
+    crates = ('leg_lemmas', 'leg_geom', 'leg_sweep')
+    parts = ('crates/leg_lemmas/proofs', 'crates/leg_geom/proofs', 'crates/leg_sweep/proofs')
+
+    def left(self, path, text):
+        """Returns which libraries of a new crate the check finds that this file of it, its only one, does not name."""
+        self.copy.write(f'crates/leg_new/{path}', text)
+        found = [re.fullmatch('crates.txt: leg_new has (.*), and no file of it names that', line) for line in said(docs.check_libraries, self.copy)]
+        self.copy.remove(f'crates/leg_new/{path}')
+        self.assertTrue(all(found))
+        return {it[1] for it in found}
+
+    def test_those_that_no_file_names(self):
+        self.assertEqual(said(docs.check_libraries, self.copy), set())
+        self.copy.write('crates.txt', self.copy.read('crates.txt') + 'leg_new staticlib: leg_geom itoa # and no other\n')
+        for text, left in (('use itoa::Buffer;\n', {'leg_geom'}), ('ghost use Rattle.leg_geom.specs.Line.{between};\n', {'itoa'}),
+                           ('#[tactic(auto, using(leg_geom::proofs::Corners::lower_left))]\nfn left() {}\n', {'itoa'}),
+                           ('// use itoa::Buffer, leg_geom::Rect\n', {'leg_geom', 'itoa'}),
+                           ('const A: &str = "itoa::Buffer";\nfn itoa(leg_geom: u8) {}\n', {'leg_geom', 'itoa'})):
+            with self.subTest(text=text):
+                self.assertEqual(self.left('src/lib.rt', text), left)
+        self.assertEqual(self.left('proofs/New.antt', 'use Rattle.leg_geom.proofs.Corners.{lower_left}\n-- as Rattle.itoa has it\n'), {'itoa'})
+
+
+class WidthTests(DoctoredTests):
+    """Lines of sources."""
+    crates = ('leg_geom',)
+    long = 'a' * docs.WIDTH
+
+    def found(self, path, text):
+        """Returns which lines of a new file the check finds too wide, and how wide they are."""
+        path = f'crates/leg_geom/{path}'
+        self.copy.write(path, text)
+        said_of_it = re.compile(rf'{re.escape(path)}:(\d+) has (\d+) characters, and {docs.WIDTH} are the most')
+        found = [said_of_it.fullmatch(line) for line in said(docs.check_widths, self.copy)]
+        self.copy.remove(path)
+        self.assertTrue(all(found))
+        return {(int(it[1]), int(it[2])) for it in found}
 
     def test_a_line_that_is_too_wide(self):
-        path, line = 'crates/leg_geom/specs/New.antt', f'-- {"a" * docs.WIDTH}'
         self.assertEqual(said(docs.check_widths, self.copy), set())
-        self.copy.write(path, f'-- Nothing.\n{line}\n')
-        self.assertEqual(said(docs.check_widths, self.copy), {f'{path}:2 has {len(line)} characters, and {docs.WIDTH} are the most'})
-        for free in (f'use Rattle.{"a" * docs.WIDTH}', f'word = codes "{"a" * docs.WIDTH}"', line[:docs.WIDTH]):
-            self.copy.write(path, f'{free}\n')
-            self.assertEqual(said(docs.check_widths, self.copy), set())
+        for path, mark in (('specs/New.antt', '--'), ('proofs/New.antt', '--'), ('src/new.rt', '//')):
+            line = f'{mark} {self.long}'
+            self.assertEqual(self.found(path, f'{mark} Nothing.\n{line}\n'), {(2, len(line))})
+            self.assertEqual(self.found(path, f'{line[:docs.WIDTH]}\n'), set())
+
+    def test_only_the_text_inside_quotation_marks_is_free(self):
+        self.assertEqual(self.found('specs/New.antt', f'word = codes "{self.long}"\n'), set())
+        lifetime = f"<u8 as A<'a>>::f('\\'', \"{self.long}\")"
+        for code in (f'b"{self.long}"', f"f('a', \"\\\"{self.long}\")", f'r#"a"{self.long}"#', f'"a\n{self.long}\n"', lifetime):
+            with self.subTest(code=code):
+                self.assertEqual(self.found('src/new.rt', f'const A: u8 = {code};\n'), set())
+        for path, line, free in (('specs/New.antt', f'word : {self.long} ≡ codes "("', 1), ('src/new.rt', f'let {self.long} = "(";', 1),
+                                 ('src/new.rt', f'// "{self.long}"', 0), ('specs/New.antt', f'-- "{self.long}"', 0)):
+            with self.subTest(line=line):
+                self.assertEqual(self.found(path, f'{line}\n'), {(1, len(line) - free)})
+
+    def test_imports_and_the_lemmas_of_an_attribute_are_free(self):
+        for line in (f'use Rattle.{self.long}', f'pub use Rattle.{self.long}'):
+            self.assertEqual(self.found('specs/New.antt', f'{line}\n'), set())
+        for line in (f'ghost use Rattle.{self.long};', f'pub(crate) use crate::{self.long};', f'#[tactic(auto, using(crate::{self.long}))]'):
+            self.assertEqual(self.found('src/new.rt', f'    {line}\n'), set())
 
 
 class PremiseTests(DoctoredTests):

@@ -57,7 +57,7 @@ class TrustedTests(unittest.TestCase):
         self.assertEqual(self.lines('--check'), (0, []))
 
     def test_a_clause_that_cites_another_definition(self):
-        path = 'crates/leg_app/src/check.rt'
+        path = 'crates/leg_check/src/check.rt'
         clause = next(it for it in self.copy.read(path).splitlines() if 'ensures list' in it)
         self.copy.edit(path, clause, '')
         self.assertEqual(self.lines('--check'), (1, [PAGE, README]))

@@ -13,7 +13,6 @@ use Rattle.leg_rules.specs.declared.difference.Section.{Section}
 use Rattle.leg_rules.specs.declared.difference.Difference.{Difference}
 use Rattle.leg_rules.specs.declared.difference.Verdict.{Verdict}
 use Rattle.leg_rules.specs.declared.difference.Verdict.TheVariants.{Same, Places, Wires, PlacesAndWires, Differs}
-use Rattle.leg_rules.specs.declared.other_order.OtherOrder.{OtherOrder}
 use Rattle.leg_rules.specs.Compare.EntryOrder.{HaveOtherOrder}
 use Rattle.leg_rules.specs.Compare.Order.{AreAllDifferences}
 use Rattle.leg_rules.specs.Compare.Verdicts.{IsVerdict}

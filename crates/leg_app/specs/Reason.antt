@@ -14,8 +14,8 @@ use Rattle.leg_rules.specs.Route.Refusals.{IsUnroutable}
 use Rattle.leg_rules.specs.Route.Refusal.{ComesToRun}
 use Rattle.leg_rules.specs.Finish.Reach.{IsFirstOfNetIfAny, IsFirstUnreachable}
 use Rattle.leg_rules.specs.Finish.Refusal.{ComesToSearch}
-use Rattle.leg_output.specs.Names.{net_name, piece_text}
-use Rattle.leg_rules.specs.Names.{name_by}
+use Rattle.leg_output.specs.Names.{piece_text}
+use Rattle.leg_design_records.specs.Names.{net_name, name_by}
 use Rattle.leg_output.specs.Lines.{piece_at}
 use Rattle.leg_app_input.specs.declared.command.Command.{Command}
 use Rattle.leg_app_input.specs.declared.command.Command.TheVariants.{PlaceCheck, Check, Measure, Legalise, Route, Flow, Finish}

@@ -11,7 +11,6 @@ ghost use Rattle.leg_app.specs.Answer.{IsListing};
 ghost use Rattle.leg_app.specs.Reason.{IsExplained, needed_master};
 ghost use Rattle.leg_app.specs.Steps.FaultReasons.{IsOfMaster};
 
-use crate::check::check_design;
 use crate::finish_answer::finish_answer;
 use crate::flow_answer::flow_answer;
 use crate::legalise_answer::legalise_answer;
@@ -22,6 +21,7 @@ use crate::texts::{behind_lefs, library_for};
 use leg_app_input::Command;
 use leg_app_lines::{listing_text, refused_text, scale_text, wirelength_text};
 use leg_app_reason::Reason;
+use leg_check::check_design;
 use leg_design::DefText;
 use leg_design_records::{Design, Fault};
 use leg_finish::Progress;

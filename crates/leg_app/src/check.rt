@@ -1,37 +1,23 @@
-//! All violations of a design.
+//! All violations of the design that texts denote.
 
-ghost use Rattle.std.specs.Prelude.{◌≡◌, ◌≢◌, ◌↔◌, ◌<◌, ℕ, List, length, map, IfOk, IfErr};
+ghost use Rattle.std.specs.Prelude.{◌≡◌, ◌≢◌, ◌<◌, ℕ, List, length, map, IfOk, IfErr};
 ghost use Rattle.leg_design_records.specs.declared.limits.TheConstants.{PART_LIMIT};
-ghost use Rattle.leg_design_records.specs.Violation.{IsListOf};
-ghost use Rattle.leg_flat.specs.declared.fault.FlatFault.TheVariants.{TooMany};
 ghost use Rattle.leg_rules.specs.Metal.Metal.{metal_of};
 ghost use Rattle.leg_app.specs.TooManyShapes.{DenoteTooMany};
 ghost use Rattle.leg_grammar.specs.Texts.{DenoteDesign, DenoteNothing};
 ghost use Rattle.leg_app.specs.Steps.OneLibrary.{DenotesJust};
-ghost use Rattle.leg_rules.specs.Violations.{IsViolation, AreAllViolations};
+ghost use Rattle.leg_rules.specs.Violations.{AreAllViolations};
 ghost use Rattle.leg_app.specs.Violations.{AreViolationsOf};
-ghost use Rattle.leg_rules.specs.Metal.Flat.{IsJudgedBy};
 ghost use Rattle.leg_app.specs.Refusal.{Refuses, IsOutOfMemory};
 ghost use Rattle.leg_app.specs.declared.text_fault.TextFault.TheVariants.{Memory};
 
 use crate::text_fault::TextFault;
 use crate::texts::{behind_lefs, library_for};
+use leg_check::check_design;
 use leg_design::DefText;
 use leg_design_records::{Design, Fault};
-use leg_flat::{Flat, FlatFault, flatten};
 use leg_lib_records::Library;
-use leg_place::place_faults;
-use leg_wire::{open_faults, spacing_faults};
 use std::alloc::Allocator;
-
-/// The flat of a design, and the design's violations in order.
-#[derive(Drop)]
-pub struct Checked<A: Allocator> {
-    /// The metal that was judged. Violations name its shapes, nets and pieces by their numbers.
-    pub flat: Flat<A>,
-    /// Everything that is not legal, each once, in order; empty where the design is legal.
-    pub violations: Vec<Fault, A>,
-}
 
 /// Everything that is not legal about the design that the texts of the LEFs, in order, and of the DEF denote: all
 /// violations that hold, each once, in order; so the block is legal if and only if there are none (lefdef's own rules).
@@ -101,24 +87,4 @@ fn violations_of<'e, A: Allocator + Copy>(
 {
     let checked = check_design(alloc, design)?;
     Ok(checked.violations)
-}
-
-/// The flat of the design, and everything that is not legal about it: all violations that hold, each once, in order
-/// (lefdef's own rules). `leg_print::print_faults` has a line for each.
-///
-/// `TooMany` means that the design has more than `leg_design::PART_LIMIT` shapes.
-pub fn check_design<A: Allocator + Copy>(
-    alloc: A,
-    design: &Design<'_, A>,
-) -> Result<Checked<A>, FlatFault>
-    ensures flat { IfOk result (λ checked. IsJudgedBy design.now checked.flat) }
-    ensures list { IfOk result (λ checked. IsListOf (IsViolation design.now) checked.violations.items) }
-    ensures many { IfErr result (λ fault. fault ≡ TooMany ↔ PART_LIMIT < length (metal_of design.now)) }
-{
-    let library = design.library();
-    let flat = flatten(alloc, library, design)?;
-    let mut violations = place_faults(alloc, library, design)?;
-    violations.append(&mut spacing_faults(alloc, library, &flat)?)?;
-    violations.append(&mut open_faults(alloc, design, &flat)?)?;
-    Ok(Checked { flat, violations })
 }

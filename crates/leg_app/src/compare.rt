@@ -1,6 +1,6 @@
 //! What differs between two DEFs after the same LEFs.
 
-ghost use Rattle.std.specs.Prelude.{◌≡◌, ◌≢◌, ◌↔◌, ℕ, false, List, map, None, Some, IsTrue, IfOk, IfErr};
+ghost use Rattle.std.specs.Prelude.{◌≡◌, ◌≢◌, ◌↔◌, ℕ, false, List, map, Some, IsTrue, IfOk, IfErr};
 ghost use Rattle.leg_lex.specs.Denotes.{Denotes};
 ghost use Rattle.leg_lex.specs.declared.read_fault.FaultKind.TheVariants as kinds;
 ghost use Rattle.leg_lib_records.specs.Records.{LibraryModel};

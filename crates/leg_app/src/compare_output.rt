@@ -19,7 +19,8 @@ pub fn run_compare<'a, W: Write, A: Allocator + Copy>(
     after: &[u8],
     out: &mut W,
 ) -> Result<ComparisonEnd<'a, A>, RunFault>
-    ensures whole { IfOk result (λ ended. TakesAnswer (IsComparisonExplained (map (λ t. t.now) lefs.now) before.now after.now ended.reason ended.order) ended.status
+    ensures whole { IfOk result (λ ended. TakesAnswer
+        (IsComparisonExplained (map (λ t. t.now) lefs.now) before.now after.now ended.reason ended.order) ended.status
         (W.contents out.old) (W.contents out.new)) }
     ensures cut { OnErr result (TakesPart (IsComparison (map (λ t. t.now) lefs.now) before.now after.now)
         (W.contents out.old) (W.contents out.new)) }

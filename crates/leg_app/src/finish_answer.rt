@@ -11,8 +11,7 @@ ghost use Rattle.leg_app.specs.Steps.Making.{IsMaking};
 use crate::answer::{Answer, copied, unsolved};
 use crate::status::Status;
 use leg_app_lines::{
-    finished_text, flat_again, net_name, not_clean_text, piece_name, unfinished_text,
-    unreachable_text,
+    finished_text, flat_again, not_clean_text, piece_name, unfinished_text, unreachable_text,
 };
 use leg_app_reason::{Reason, Stage};
 use leg_design_records::Design;
@@ -68,7 +67,7 @@ fn not_finished<'e, A: Allocator + Copy>(
         FinishFault::Unreachable(net, piece) => {
             let flat = flat_again(alloc, design)?;
             let piece = piece_name(alloc, design, &flat, *net, *piece)?;
-            let net = copied(alloc, net_name(design, *net))?;
+            let net = copied(alloc, design.net_name(*net))?;
             let text = unreachable_text(alloc, net.as_slice(), piece.as_slice())?;
             Ok(unsolved(text, Reason::Unreachable(net, piece)))
         }

@@ -12,7 +12,7 @@ ghost use Rattle.leg_app.specs.Steps.Making.{IsMaking};
 
 use crate::answer::{Answer, copied, unsolved};
 use crate::status::Status;
-use leg_app_lines::{component_name, fixed_illegal_text, legalised_text, name_line};
+use leg_app_lines::{fixed_illegal_text, legalised_text, name_line};
 use leg_app_reason::Reason;
 use leg_design_records::Design;
 use leg_design_records::laws::design_is_sound;
@@ -59,12 +59,12 @@ pub(crate) fn not_legalised<'e, A: Allocator + Copy>(
             Ok(unsolved(text, Reason::FixedIllegal))
         }
         LegalFault::NoSite(c) => {
-            let component = copied(alloc, component_name(design, *c))?;
+            let component = copied(alloc, design.component_name(*c))?;
             let text = name_line(alloc, b"NOSITE ", component.as_slice())?;
             Ok(unsolved(text, Reason::NoSite(component)))
         }
         LegalFault::NoRoom(c) => {
-            let component = copied(alloc, component_name(design, *c))?;
+            let component = copied(alloc, design.component_name(*c))?;
             let text = name_line(alloc, b"NOROOM ", component.as_slice())?;
             Ok(unsolved(text, Reason::NoRoom(component)))
         }

@@ -20,7 +20,7 @@ mod texts;
 
 // What a tool needs to read a block and to print what is not legal about it.
 pub use answer::{Answer, answer_to};
-pub use check::{Checked, check_design, check_texts};
+pub use check::check_texts;
 pub use compare::compare_texts;
 pub use compare_end::{ComparisonAnswer, ComparisonEnd, ComparisonReason, Side};
 pub use compare_output::run_compare;
@@ -30,6 +30,7 @@ pub use leg_app_input::{
     split_stream,
 };
 pub use leg_app_reason::{Reason, Stage};
+pub use leg_check::{Checked, check_design};
 pub use leg_compare::OtherOrder;
 pub use leg_design::DefText;
 pub use leg_design_records::{Design, Fault};

@@ -16,7 +16,7 @@ ghost use Rattle.leg_app.specs.Steps.Making.{IsMaking};
 
 use crate::answer::{Answer, copied, unsolved};
 use crate::status::Status;
-use leg_app_lines::{flat_again, name_line, net_name, not_clean_text, piece_name};
+use leg_app_lines::{flat_again, name_line, not_clean_text, piece_name};
 use leg_app_reason::{Reason, Stage};
 use leg_design_records::Design;
 use leg_design_records::laws::design_is_sound;
@@ -75,7 +75,7 @@ pub(crate) fn not_routed<'e, A: Allocator + Copy>(
         }
         RouteFault::Unroutable(net) => {
             let piece = cut_off_piece(alloc, design, *net)?;
-            let net = copied(alloc, net_name(design, *net))?;
+            let net = copied(alloc, design.net_name(*net))?;
             let text = name_line(alloc, b"UNROUTABLE ", net.as_slice())?;
             Ok(unsolved(text, Reason::Unroutable(net, piece)))
         }

@@ -3,12 +3,12 @@
 ghost use Rattle.std.specs.Prelude.{◌≡◌, IfOk, option_map};
 ghost use Rattle.leg_output.specs.Commands.Check.{kind_name, listing_text, refused_line, refused_text, scale_kind_name, scale_text, wirelength_text};
 
-use crate::words::{push_length, push_number};
 use leg_design_records::{Design, Fault};
 use leg_flat::Flat;
 use leg_lex::{FaultKind, ReadFault};
 use leg_lib_records::{ScaleFault, ScaleKind};
 use leg_print::print_faults;
+use leg_print_words::{push_count, push_decimal};
 use std::alloc::{AllocError, Allocator};
 
 /// A line for each violation, and their number. The flat has the shapes and pieces that violations name.
@@ -22,7 +22,7 @@ pub fn listing_text<A: Allocator + Copy>(
 {
     let mut text = print_faults(alloc, design.library(), design, flat, violations)?;
     text.extend_from_slice(b"violations ")?;
-    push_number(&mut text, violations.len() as u64)?;
+    push_count(&mut text, violations.len() as u64)?;
     text.extend_from_slice(b"\n")?;
     Ok(text)
 }
@@ -32,7 +32,7 @@ pub fn wirelength_text<A: Allocator + Copy>(alloc: A, length: i64) -> Result<Vec
     ensures { IfOk result (λ text. text.items ≡ wirelength_text length) }
 {
     let mut text = Vec::from_slice(alloc, b"hpwl ")?;
-    push_length(&mut text, length)?;
+    push_decimal(&mut text, length)?;
     text.extend_from_slice(b"\n")?;
     Ok(text)
 }
@@ -56,9 +56,9 @@ pub fn refused_line<A: Allocator + Copy>(
     ensures { IfOk result (λ text. text.items ≡ refused_line file fault.now.line fault.now.kind) }
 {
     let mut text = Vec::from_slice(alloc, b"REFUSED ")?;
-    push_number(&mut text, file)?;
+    push_count(&mut text, file)?;
     text.extend_from_slice(b" ")?;
-    push_number(&mut text, u64::from(fault.line))?;
+    push_count(&mut text, u64::from(fault.line))?;
     text.extend_from_slice(b" ")?;
     text.extend_from_slice(kind_name(fault.kind))?;
     text.extend_from_slice(b"\n")?;

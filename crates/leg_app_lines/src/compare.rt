@@ -11,9 +11,9 @@ ghost use Rattle.leg_output.specs.Commands.Compare.{
   comparison_text,
 };
 
-use crate::words::push_number;
 use leg_compare::{Change, Difference, Part, Section, Verdict, entry_name};
 use leg_design_records::Design;
+use leg_print_words::push_count;
 use std::alloc::{AllocError, Allocator};
 
 /// A line for each difference, and one on all of them.
@@ -86,19 +86,19 @@ fn push_verdict<A: Allocator>(text: &mut Vec<u8, A>, verdict: Verdict) -> Result
 {
     match verdict {
         Verdict::Same => text.extend_from_slice(b"same")?,
-        Verdict::Places(moves) => push_count(text, b"places ", moves)?,
-        Verdict::Wires(growths) => push_count(text, b"wires ", growths)?,
+        Verdict::Places(moves) => push_with_count(text, b"places ", moves)?,
+        Verdict::Wires(growths) => push_with_count(text, b"wires ", growths)?,
         Verdict::PlacesAndWires(moves, growths) => {
-            push_count(text, b"places ", moves)?;
-            push_count(text, b" wires ", growths)?;
+            push_with_count(text, b"places ", moves)?;
+            push_with_count(text, b" wires ", growths)?;
         }
-        Verdict::Differs(count) => push_count(text, b"differs ", count)?,
+        Verdict::Differs(count) => push_with_count(text, b"differs ", count)?,
     }
     text.extend_from_slice(b"\n")
 }
 
 /// Adds a word and a number.
-fn push_count<A: Allocator>(
+fn push_with_count<A: Allocator>(
     text: &mut Vec<u8, A>,
     word: &[u8],
     count: usize,
@@ -106,7 +106,7 @@ fn push_count<A: Allocator>(
     ensures { OnOk result (text.new.items ≡ text.old.items ++ word.now ++ decimal count) }
 {
     text.extend_from_slice(word)?;
-    push_number(text, count as u64)
+    push_count(text, count as u64)
 }
 
 fn part_word(part: Part) -> &'static [u8]

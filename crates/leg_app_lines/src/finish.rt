@@ -3,16 +3,15 @@
 ghost use Rattle.std.specs.Prelude.{◌≡◌, ◌++◌, Some, option_map, codes, IfOk, OnOk};
 ghost use Rattle.std.specs.List.{flat_map};
 ghost use Rattle.leg_output.specs.Names.{piece_text};
-ghost use Rattle.leg_rules.specs.Names.{name_by};
+ghost use Rattle.leg_design_records.specs.Names.{name_by};
 ghost use Rattle.leg_output.specs.Lines.{piece_at};
 ghost use Rattle.leg_output.specs.Commands.Finish.{number_line, finished_text, unfinished_line, unfinished_text};
 
-use crate::route::net_name;
-use crate::words::push_number;
 use leg_design_records::Design;
 use leg_flat::{Flat, Piece};
 use leg_lib_records::Items;
 use leg_print::{print_def, push_piece};
+use leg_print_words::push_count;
 use std::alloc::{AllocError, Allocator};
 
 /// The text of a finished design, how long its added wires are together, and how many of them are vias.
@@ -39,7 +38,7 @@ fn push_number_line<A: Allocator>(
     ensures { OnOk result (text.new.items ≡ text.old.items ++ number_line word.now number) }
 {
     text.extend_from_slice(word)?;
-    push_number(text, number)?;
+    push_count(text, number)?;
     text.extend_from_slice(b"\n")
 }
 
@@ -135,6 +134,6 @@ fn push_unfinished<A: Allocator + Copy>(
     ensures { OnOk result (text.new.items ≡ text.old.items ++ unfinished_line design.now net) }
 {
     text.extend_from_slice(b"UNFINISHED ")?;
-    text.extend_from_slice(net_name(design, net))?;
+    text.extend_from_slice(design.net_name(net))?;
     text.extend_from_slice(b"\n")
 }

@@ -1,14 +1,13 @@
 //! The lines that `legalise` prints.
 
 ghost use Rattle.std.specs.Prelude.{◌≡◌, ◌++◌, IfOk, OnOk};
-ghost use Rattle.leg_rules.specs.Names.{component_name};
 ghost use Rattle.leg_output.specs.Commands.Legalise.{length_line, move_line, total_lines, legalised_text, fixed_illegal_text};
 
-use crate::words::{push_length, push_number};
 use leg_design_records::{Component, Design, Fault};
 use leg_flat::Flat;
 use leg_legal::Moves;
 use leg_print::{print_def, print_faults};
+use leg_print_words::{push_count, push_decimal};
 use std::alloc::{AllocError, Allocator};
 
 /// The text of a legalised design, and how far its components have moved.
@@ -45,7 +44,7 @@ fn push_move<A: Allocator>(
     text.extend_from_slice(b"# move ")?;
     text.extend_from_slice(component.name.bytes())?;
     text.extend_from_slice(b" ")?;
-    push_length(text, distance)?;
+    push_decimal(text, distance)?;
     text.extend_from_slice(b"\n")
 }
 
@@ -70,7 +69,7 @@ fn push_length_line<A: Allocator>(
     ensures { OnOk result (text.new.items ≡ text.old.items ++ length_line word.now length) }
 {
     text.extend_from_slice(word)?;
-    push_length(text, length)?;
+    push_decimal(text, length)?;
     text.extend_from_slice(b"\n")
 }
 
@@ -91,17 +90,7 @@ pub fn fixed_illegal_text<A: Allocator + Copy>(
         violations,
     )?;
     text.extend_from_slice(b"FIXEDILLEGAL ")?;
-    push_number(&mut text, violations.len() as u64)?;
+    push_count(&mut text, violations.len() as u64)?;
     text.extend_from_slice(b"\n")?;
     Ok(text)
-}
-
-/// The name of the component of this number; empty where there is none.
-pub fn component_name<'d, A: Allocator + Copy>(design: &'d Design<'_, A>, number: u32) -> &'d [u8]
-    ensures { result.now ≡ component_name design.now number }
-{
-    match design.components().get(number as usize) {
-        Some(component) => component.name.bytes(),
-        None => b"",
-    }
 }

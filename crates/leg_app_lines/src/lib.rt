@@ -11,6 +11,6 @@ mod words;
 pub use check::{listing_text, refused_line, refused_text, scale_text, wirelength_text};
 pub use compare::comparison_text;
 pub use finish::{finished_text, piece_name, unfinished_text, unreachable_text};
-pub use legalise::{component_name, fixed_illegal_text, legalised_text};
-pub use route::{flat_again, net_name, not_clean_text};
+pub use legalise::{fixed_illegal_text, legalised_text};
+pub use route::{flat_again, not_clean_text};
 pub use words::name_line;

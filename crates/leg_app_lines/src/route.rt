@@ -4,13 +4,12 @@ ghost use Rattle.std.specs.Prelude.{◌≡◌, ◌≤◌, length, IfOk};
 ghost use Rattle.leg_design_records.specs.declared.limits.TheConstants.{PART_LIMIT};
 ghost use Rattle.leg_rules.specs.Metal.Flat.{FlatModel, IsFlatOf};
 ghost use Rattle.leg_rules.specs.Metal.Metal.{metal_of};
-ghost use Rattle.leg_output.specs.Names.{net_name};
 ghost use Rattle.leg_output.specs.Commands.Route.{not_clean_text};
 
-use crate::words::push_number;
 use leg_design_records::{Design, Fault};
 use leg_flat::{Flat, flatten};
 use leg_print::print_faults;
+use leg_print_words::push_count;
 use std::alloc::{AllocError, Allocator};
 
 /// The lines of violations of a design that keeps the limit of shapes, and their number. The violations speak of the
@@ -53,23 +52,7 @@ fn shown_text<A: Allocator + Copy>(
 {
     let mut text = print_faults(alloc, design.library(), design, Some(flat), violations)?;
     text.extend_from_slice(b"NOTCLEAN ")?;
-    push_number(&mut text, violations.len() as u64)?;
+    push_count(&mut text, violations.len() as u64)?;
     text.extend_from_slice(b"\n")?;
     Ok(text)
-}
-
-/// The name of the net of this number: entries of `NETS` count first. Empty where there is none.
-pub fn net_name<'d, A: Allocator + Copy>(design: &'d Design<'_, A>, number: u32) -> &'d [u8]
-    ensures { result.now ≡ net_name design.now number }
-{
-    let (number, regular) = (number as usize, design.nets().len());
-    let net = if number < regular {
-        design.nets().get(number)
-    } else {
-        design.special().get(number - regular)
-    };
-    match net {
-        Some(net) => net.name.bytes(),
-        None => b"",
-    }
 }

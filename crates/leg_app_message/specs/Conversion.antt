@@ -1,5 +1,5 @@
 -- Lengths of a LEF that are converted to the DEF's units, and behind which words they stand.
-use Rattle.std.specs.Prelude.{◌≡◌, ◌≢◌, ℕ, ℤ, Bool, false, ◌||◌, if◌then◌else◌, List, [], ◌∷◌, ◌++◌, ◌⊎◌, All, Contains, IsTrue, Ok, codes}
+use Rattle.std.specs.Prelude.{◌≡◌, ◌≢◌, ℕ, ℤ, Bool, false, ◌||◌, if◌then◌else◌, List, ◌∷◌, ◌++◌, ◌⊎◌, All, Contains, IsTrue, Ok, codes}
 use Rattle.leg_lex.specs.Word.{Word}
 use Rattle.leg_lex.specs.Words.{is_keyword}
 use Rattle.leg_lex.specs.Number.{micron_of}

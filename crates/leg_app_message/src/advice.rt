@@ -3,9 +3,9 @@
 ghost use Rattle.std.specs.Prelude.{◌≡◌, ◌++◌, OnOk};
 ghost use Rattle.leg_app_message.specs.Advice.{front_of, name_of, middle_of, limit_text, piece_of, end_of, advice_of};
 
-use crate::parts::push_number;
 use crate::text_line::push_shown_bytes;
 use leg_app_reason::{Reason, Stage};
+use leg_print_words::push_count;
 use std::alloc::{AllocError, Allocator};
 
 /// What is said first.
@@ -72,7 +72,7 @@ fn push_limit<A: Allocator, B: Allocator>(
     ensures { OnOk result (message.new.items ≡ message.old.items ++ limit_text reason.now) }
 {
     match reason {
-        Reason::GridTooLarge(limit) => push_number(message, *limit as usize),
+        Reason::GridTooLarge(limit) => push_count(message, *limit),
         _ => Ok(()),
     }
 }

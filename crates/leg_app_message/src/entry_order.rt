@@ -3,7 +3,7 @@
 ghost use Rattle.std.specs.Prelude.{◌≡◌, IfOk};
 ghost use Rattle.leg_app_message.specs.EntryOrder.{order_text, order_message};
 
-use crate::parts::push_parts;
+use leg_print_words::push_parts;
 use leg_rules::OtherOrder;
 use std::alloc::{AllocError, Allocator};
 

@@ -9,7 +9,6 @@ mod entry_order;
 mod limits;
 mod note;
 mod noting_writer;
-mod parts;
 mod refused;
 mod run_message;
 mod scaling;

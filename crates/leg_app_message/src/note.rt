@@ -4,8 +4,7 @@ ghost use Rattle.std.specs.Prelude.{◌≡◌};
 ghost use Rattle.leg_app_message.specs.Note.{note_line, hides_line};
 ghost use Rattle.leg_app_message.specs.Steps.Signatures.{signature_note};
 
-use crate::text_line::is_white;
-use leg_lex::{FaultKind, ReadFault, TEXT_LIMIT, is_keyword};
+use leg_lex::{FaultKind, ReadFault, TEXT_LIMIT, is_keyword, is_white};
 use memchr::memchr;
 
 /// One of the two formats.

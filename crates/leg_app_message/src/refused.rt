@@ -5,12 +5,12 @@ ghost use Rattle.leg_app_message.specs.declared.note.Note.{Note};
 ghost use Rattle.leg_app_message.specs.Message.{place_text, word_place_text, fault_place, fault_message, line_message, reason_of, marked_line, word_of};
 
 use crate::note::{Note, empty_lef_note, hides_line, last_word_note, note_line, note_of};
-use crate::parts::{push_number, push_parts};
 use crate::sentence::{advice_on, after_of, before_of, push_need};
 use crate::text_line::{column_of, line_of, push_mark, push_shown, push_word, word_at};
 use crate::texts::Texts;
 use leg_lex::{ReadFault, TEXT_LIMIT};
 use leg_lib_records::Items;
+use leg_print_words::{push_count, push_parts};
 use std::alloc::{AllocError, Allocator};
 
 /// The message on a text that is refused so, where a pin of this macro may be needed: where and why, the line with the word at fault, and
@@ -89,7 +89,7 @@ pub(crate) fn push_place<A: Allocator>(
     ensures { OnOk result (message.new.items ≡ message.old.items ++ place_text texts.now number line) }
 {
     push_parts(message, &[texts.path(number), b":"])?;
-    push_number(message, line as usize)?;
+    push_count(message, u64::from(line))?;
     push_parts(message, &[b": ", texts.part(number)])
 }
 
@@ -105,9 +105,9 @@ fn push_word_place<A: Allocator>(
     ensures { OnOk result (message.new.items ≡ message.old.items ++ word_place_text texts.now number line column) }
 {
     push_parts(message, &[texts.path(number), b":"])?;
-    push_number(message, line as usize)?;
+    push_count(message, u64::from(line))?;
     message.extend_from_slice(b":")?;
-    push_number(message, column + 1)?;
+    push_count(message, (column + 1) as u64)?;
     push_parts(message, &[b": ", texts.part(number)])
 }
 

@@ -10,7 +10,6 @@ ghost use Rattle.leg_app_message.specs.Length.{HasFault};
 ghost use Rattle.leg_app_message.specs.Message.{length_message, name_message, scale_reason, IsScaleMessage};
 
 use crate::conversion::{begins_lengths, is_of_library};
-use crate::parts::{push_number, push_parts};
 use crate::refused::push_place;
 use crate::sentence::scale_sentence_of;
 use crate::text_line::{line_of, push_shown, push_shown_bytes};
@@ -18,6 +17,7 @@ use crate::texts::Texts;
 use leg_lex::{NumFault, Token, UNITS_LIMIT, is_keyword, micron, tokens};
 use leg_lib::read_lefs;
 use leg_lib_records::{RawLibrary, ScaleFault, ScaleKind};
+use leg_print_words::{push_count, push_parts};
 use std::alloc::{AllocError, Allocator};
 
 /// A length as a LEF writes it.
@@ -100,7 +100,7 @@ fn push_reason<A: Allocator>(
     ensures { OnOk result (message.new.items ≡ message.old.items ++ scale_reason kind units) }
 {
     push_parts(message, &[b" ", scale_sentence_of(kind), b" (the DEF has "])?;
-    push_number(message, units as usize)?;
+    push_count(message, units as u64)?;
     message.extend_from_slice(b" units to the micron)\n")
 }
 
@@ -115,7 +115,8 @@ fn written_in<'a, A: Allocator + Copy>(
 ) -> Option<Written<'a>>
     ensures has { IfSome result (λ written. HasFault fault.now.kind units written.length.now) }
     ensures kept { IfSome result (λ written. IsOfLibrary library.now fault.now.kind written.form.now fault.now.name written.length.now) }
-    ensures there { IfSome result (λ written. (words : List Word) × AreTokens lef.now words × IsInForm fault.now.kind fault.now.name words written.form.now written.length.now written.line) }
+    ensures there { IfSome result (λ written.
+        (words : List Word) × AreTokens lef.now words × IsInForm fault.now.kind fault.now.name words written.form.now written.length.now written.line) }
 {
     let Ok(words) = tokens(alloc, lef) else {
         return None;

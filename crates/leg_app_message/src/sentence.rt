@@ -5,11 +5,11 @@ ghost use Rattle.leg_app_message.specs.Texts.{path_of};
 ghost use Rattle.std.specs.List.{list_any};
 ghost use Rattle.leg_app_message.specs.Sentence.{end_text, before_of, after_of, point_text, name_text, known_text, most_text, rename_text, first_text, master_text, middle_text, last_text, need_text, is_turn, def_tool_text, lef_tool_text, advice_on, scale_sentence_of};
 
-use crate::parts::{push_number, push_parts, push_signed};
 use crate::text_line::push_shown_bytes;
 use crate::texts::Texts;
 use leg_lex::{Entry, FaultKind, NameKind, Need, is_keyword};
 use leg_lib_records::{Items, ScaleKind};
+use leg_print_words::{push_count, push_decimal};
 use std::alloc::{AllocError, Allocator};
 
 /// Where a text ends that has this last word, or none.
@@ -220,7 +220,7 @@ fn push_line<A: Allocator>(message: &mut Vec<u8, A>, line: u32) -> Result<(), Al
     ensures { OnOk result (message.new.items ≡ message.old.items ++ codes ", which line " ++ decimal line ++ codes " defines") }
 {
     message.extend_from_slice(b", which line ")?;
-    push_number(message, line as usize)?;
+    push_count(message, u64::from(line))?;
     message.extend_from_slice(b" defines")
 }
 
@@ -236,7 +236,7 @@ fn push_text_line<A: Allocator>(
     message.extend_from_slice(b", which ")?;
     message.extend_from_slice(texts.path(file as usize))?;
     message.extend_from_slice(b":")?;
-    push_number(message, line as usize)?;
+    push_count(message, u64::from(line))?;
     message.extend_from_slice(b" defines")
 }
 
@@ -274,8 +274,8 @@ fn push_middle<A: Allocator, B: Allocator>(
         Need::New(NameKind::Via) => message.extend_from_slice(b", which a LEF defines"),
         Need::NewSince(_, line) => push_line(message, line),
         Need::NewSinceText(_, file, line) => push_text_line(message, texts, file, line),
-        Need::AtLeast(least) => push_number(message, least as usize),
-        Need::SiteStep(width) => push_signed(message, width),
+        Need::AtLeast(least) => push_count(message, u64::from(least)),
+        Need::SiteStep(width) => push_decimal(message, width),
         _ => Ok(()),
     }
 }

@@ -2,9 +2,9 @@
 
 ghost use Rattle.std.specs.Prelude.{◌≡◌, ◌++◌, ◌<◌, ◌^◌, map, take, replicate, OnOk};
 ghost use Rattle.std.specs.List.{fold};
-ghost use Rattle.leg_lex.specs.Cut.{is_white};
 ghost use Rattle.leg_app_message.specs.TextLine.{line_of, end_of_shown, shown_byte, shown_line, word_at, end_of_word, shown_word, next_column, column_of, mark_line};
 
+use leg_lex::is_white;
 use std::alloc::{AllocError, Allocator};
 
 /// How many bytes of a line are shown at most.
@@ -178,11 +178,4 @@ fn shown_byte(byte: u8) -> u8
     } else {
         byte
     }
-}
-
-/// Whether the byte is white space in LEF and DEF: 9 to 13, and the blank.
-pub(crate) fn is_white(byte: u8) -> bool
-    ensures { result ≡ is_white byte }
-{
-    matches!(byte, b'\t'..=b'\r' | b' ')
 }

@@ -1,6 +1,6 @@
 //! The free parts of the memory that was lent, in the order of their places.
 
-ghost use Rattle.std.specs.Prelude.{◌≡◌, ◌<◌, IfSome, IfOk, IfErr};
+ghost use Rattle.std.specs.Prelude.{◌≡◌, IfSome, IfOk, IfErr};
 ghost use denote.RawPtr.{block_of};
 ghost use Rattle.leg_c_memory.specs.Sizes.{IsSize};
 

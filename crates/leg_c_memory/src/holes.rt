@@ -52,7 +52,9 @@ impl Holes {
 
     /// The first part, and the others.
     pub(crate) fn pop(self) -> Result<(Memory, Holes), Holes>
-        ensures { MatchResult result (λ r. (block_of r.0.ptr ≡ self.object) × (r.1.object ≡ self.object) × (self.spans ≡ (count_of r.0.ptr, r.0.size) ∷ r.1.spans)) (λ l. (l ≡ self) × (self.spans ≡ [])) }
+        ensures { MatchResult result
+            (λ r. (block_of r.0.ptr ≡ self.object) × (r.1.object ≡ self.object) × (self.spans ≡ (count_of r.0.ptr, r.0.size) ∷ r.1.spans))
+            (λ l. (l ≡ self) × (self.spans ≡ [])) }
     {
         let Holes { first } = self;
         if first.is_null() {

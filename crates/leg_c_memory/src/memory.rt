@@ -2,7 +2,7 @@
 
 ghost use Rattle.std.specs.Prelude.{◌≡◌, ◌-◌, ◌+◌, ◌<◌, MatchResult};
 ghost use types.Logic.{sem};
-ghost use denote.RawPtr.{block_of, count_of};
+ghost use denote.RawPtr.{block_of};
 ghost use Rattle.leg_c_memory.specs.Sizes.{IsSize, IsMemory};
 ghost use Rattle.leg_c_memory.specs.Ownership.{bytes_at};
 

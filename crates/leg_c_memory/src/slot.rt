@@ -1,6 +1,6 @@
 //! A cell with the free parts of one object's memory, or with nothing while they are in use.
 
-ghost use Rattle.std.specs.Prelude.{◌≡◌, ℕ, IfSome};
+ghost use Rattle.std.specs.Prelude.{◌≡◌, ℕ};
 ghost use base.Fml.{fex, fsep, ftrue};
 ghost use Rattle.leg_c_memory.specs.Parts.{parts_object, IsOf};
 ghost use Rattle.leg_c_memory.specs.Ownership.{behind_a_ref};

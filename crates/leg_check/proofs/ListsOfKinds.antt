@@ -55,22 +55,21 @@ module _ (design : DesignModel) (flat : FlatModel) (is_flat : IsFlatOf design fl
   in_this_flat : (v : Fault) → IsOfMetal design v → IsInFlat design flat v
   in_this_flat v h = subst (λ f. IsInFlat design f v) (one_flat design h.flat flat h.is_flat is_flat) h.holds
 
-  placement_first : (v w : Fault) → IsPlacementViolation design v → IsInFlat design flat w → kind_number v < kind_number w
-  placement_first v w p m =
-      elim m [
-        | inl s ↦ omega (arith, kind_below design v p, spacing_after design.library flat w s)
-        | inr o ↦ omega (arith, kind_below design v p, open_last design flat w o)
+  others_first : (v w : Fault) → IsOtherThanOpen design flat v → IsOpenViolation design flat w → kind_number v < kind_number w
+  others_first v w other o =
+      elim other [
+        | inl p ↦ omega (arith, kind_below design v p, open_last design flat w o)
+        | inr s ↦ omega (arith, spacing_before design.library flat v s, open_last design flat w o)
       ]
 
-  -- the three lists are the list of all violations
-  pub all_violations : (xs ys zs : List Fault) → IsListOf (IsPlacementViolation design) xs → IsListOf (IsSpacingViolation design.library flat) ys
-      → IsListOf (IsOpenViolation design flat) zs
-      → IsListOf (IsViolation design) (xs ++ (ys ++ zs))
-  all_violations xs ys zs placed spaced opened =
-      let metal =
-      both_lists (IsSpacingViolation design.library flat) (IsOpenViolation design flat) ys zs
-      (λ v w s o. omega (arith, spacing_before design.library flat v s, open_last design flat w o)) spaced opened in
-      same_list (λ v. IsPlacementViolation design v ⊎ IsInFlat design flat v) (IsViolation design)
-      (λ v h. elim h [ inl p ↦ inl p | inr m ↦ inr (record { flat = flat; is_flat = is_flat; holds = m }) ])
-      (λ v h. elim h [ inl p ↦ inl p | inr m ↦ inr (in_this_flat v m) ]) (xs ++ (ys ++ zs))
-      (both_lists (IsPlacementViolation design) (IsInFlat design flat) xs (ys ++ zs) placement_first placed metal)
+  -- the violations of all kinds but open nets, and then the open nets, are the list of all violations
+  pub all_violations : (xs ys : List Fault) → IsListOf (IsOtherThanOpen design flat) xs → IsListOf (IsOpenViolation design flat) ys
+      → IsListOf (IsViolation design) (xs ++ ys)
+  all_violations xs ys others opened =
+      same_list (λ v. IsOtherThanOpen design flat v ⊎ IsOpenViolation design flat v) (IsViolation design)
+      (λ v h. elim h [
+        | inl other ↦ elim other [ inl p ↦ inl p | inr s ↦ inr (record { flat = flat; is_flat = is_flat; holds = inl s }) ]
+        | inr o ↦ inr (record { flat = flat; is_flat = is_flat; holds = inr o })
+      ])
+      (λ v h. elim h [ inl p ↦ inl (inl p) | inr m ↦ elim (in_this_flat v m) [ inl s ↦ inl (inr s) | inr o ↦ inr o ] ]) (xs ++ ys)
+      (both_lists (IsOtherThanOpen design flat) (IsOpenViolation design flat) xs ys others_first others opened)

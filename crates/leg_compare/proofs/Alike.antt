@@ -17,7 +17,8 @@ use Rattle.leg_rules.specs.declared.difference.Change.TheVariants.{Shapes, Macro
 use Rattle.leg_rules.specs.declared.difference.Difference.{Difference}
 use Rattle.leg_rules.specs.declared.difference.Difference.TheVariants.{Whole, Gone, Changed, Added}
 use Rattle.leg_rules.specs.Compare.Sections.{names_of}
-use Rattle.leg_rules.specs.Compare.Spelling.{spelled_terminal, spelled_terminals, spelled_wire, spelled_wires}
+use Rattle.leg_rules.specs.Compare.Spelling.{spelled_terminals, spelled_wire, spelled_wires}
+use Rattle.leg_design_records.specs.Names.{terminal_names}
 use Rattle.leg_rules.specs.Compare.Differences.{DiffersInPart, DiffersAsVia, DiffersAsComponent, DiffersAsPin, DiffersAsNet, DifferAt, HasChanged, IsDifference}
 use Rattle.leg_compare.proofs.TerminalSets.{same_if_equal}
 
@@ -112,12 +113,12 @@ pub goes_on_itself : (first second : DesignModel) → ((w : Wire) → spelled_wi
 goes_on_itself first second same [] = refl
 goes_on_itself first second same (w ∷ wires) = λ i. same w i ∷ goes_on_itself first second same wires i
 
-pub terminals_same : (first second : DesignModel) → ((t : Terminal) → spelled_terminal second t ≡ spelled_terminal first t) → (terminals : List Terminal)
+pub terminals_same : (first second : DesignModel) → ((t : Terminal) → terminal_names second t ≡ terminal_names first t) → (terminals : List Terminal)
     → spelled_terminals second terminals ≡ spelled_terminals first terminals
 terminals_same first second same [] = refl
 terminals_same first second same (t ∷ terminals) = λ i. same t i ∷ terminals_same first second same terminals i
 
-module _ (first second : DesignModel) (terminals : (t : Terminal) → spelled_terminal second t ≡ spelled_terminal first t)
+module _ (first second : DesignModel) (terminals : (t : Terminal) → terminal_names second t ≡ terminal_names first t)
     (wires : (w : Wire) → spelled_wire second w ≡ spelled_wire first w) where
   pub same_net : (change : Change) (x : NetModel) → ¬ DiffersAsNet first second change x x
   same_net Shapes x h = absurd h

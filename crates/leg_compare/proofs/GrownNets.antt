@@ -18,7 +18,8 @@ use Rattle.leg_rules.specs.declared.difference.Change.TheVariants.{Shapes, Macro
 use Rattle.leg_rules.specs.declared.difference.Difference.{Difference}
 use Rattle.leg_rules.specs.declared.difference.Difference.TheVariants.{Changed}
 use Rattle.leg_rules.specs.Compare.Sections.{names_of}
-use Rattle.leg_rules.specs.Compare.Spelling.{spelled_terminal, spelled_terminals, spelled_wire, spelled_wires}
+use Rattle.leg_rules.specs.Compare.Spelling.{spelled_terminals, spelled_wire, spelled_wires}
+use Rattle.leg_design_records.specs.Names.{terminal_names}
 use Rattle.leg_rules.specs.Compare.Differences.{DiffersInPart, DiffersAsVia, DiffersAsComponent, DiffersAsPin, DiffersAsNet, DifferAt, HasChanged, IsDifference}
 use Rattle.leg_rules.specs.Compare.Verdicts.{IsGrowth}
 use Rattle.leg_compare.proofs.TerminalSets.{same_if_equal}
@@ -44,7 +45,7 @@ grown_at (a ∷ before) (b ∷ after) zero x y h there here =
     subst (λ (n : NetModel). IsSameNetButForWires n y) first (subst (λ (n : NetModel). IsSameNetButForWires a n) second h.0)
 grown_at (a ∷ before) (b ∷ after) (suc i) x y h there here = grown_at before after i x y h.1 there here
 
-module _ (first second : DesignModel) (terminals : (t : Terminal) → spelled_terminal second t ≡ spelled_terminal first t)
+module _ (first second : DesignModel) (terminals : (t : Terminal) → terminal_names second t ≡ terminal_names first t)
     (wires : (w : Wire) → spelled_wire second w ≡ spelled_wire first w) where
   goes_on : (front more : List Wire) → spelled_wires second (front ++ more) ≡ spelled_wires first front ++ spelled_wires first more
   goes_on [] more = goes_on_itself first second wires more
@@ -71,7 +72,7 @@ module _ (first second : DesignModel) (terminals : (t : Terminal) → spelled_te
   growth_at change i before after grown h = growth_of change h.x h.y (grown_at before after i h.x h.y grown h.at_first h.at_second) h.differ
 
 module _ (before : DesignModel) (proper : IsWellFormed before) (nets : List NetModel) (grown : OneForOne IsSameNetButForWires before.nets nets) where
-  terminal_same : (t : Terminal) → spelled_terminal (record before { nets = nets }) t ≡ spelled_terminal before t
+  terminal_same : (t : Terminal) → terminal_names (record before { nets = nets }) t ≡ terminal_names before t
   terminal_same (Comp c k) = refl
   terminal_same (Pin p) = refl
 

@@ -18,7 +18,8 @@ use Rattle.leg_rules.specs.declared.difference.Change.{Change}
 use Rattle.leg_rules.specs.declared.difference.Difference.{Difference}
 use Rattle.leg_rules.specs.declared.difference.Difference.TheVariants.{Changed}
 use Rattle.leg_rules.specs.Compare.Sections.{names_of}
-use Rattle.leg_rules.specs.Compare.Spelling.{spelled_terminal, spelled_wire}
+use Rattle.leg_rules.specs.Compare.Spelling.{spelled_wire}
+use Rattle.leg_design_records.specs.Names.{terminal_names}
 use Rattle.leg_rules.specs.Compare.Differences.{DiffersInPart, DiffersAsVia, DiffersAsComponent, DiffersAsPin, DiffersAsNet, HasChanged, IsDifference}
 use Rattle.leg_rules.specs.Compare.Verdicts.{IsMove, IsGrowth}
 use Rattle.leg_compare.proofs.Alike.{names_apart, AreAlike, IsChangeAt, only_changes, none_differ, same_via, same_component, same_pin, same_net}
@@ -31,7 +32,7 @@ module _ (before : DesignModel) (proper : IsWellFormed before) (components : Lis
   abbrev pub changed_to : DesignModel
   changed_to = record before { components = components; nets = nets }
 
-  terminal_same : (t : Terminal) → spelled_terminal changed_to t ≡ spelled_terminal before t
+  terminal_same : (t : Terminal) → terminal_names changed_to t ≡ terminal_names before t
   terminal_same (Comp c k) = owner_same before proper components count kept (Comp c k)
   terminal_same (Pin p) = refl
 

@@ -2,6 +2,8 @@
 use Rattle.std.proofs.Common.{◌≡◌, ℕ, ◌<◌, ◌≤◌, ◌⊎◌, inl, inr, List, length, get_or, Option, None, Some, slice_get, refl, sym, ap, ◌∙◌, subst, arith}
 use Rattle.std.proofs.lemmas.Option.{same_Some, slice_get-get_or, slice_get_past}
 use Rattle.std.proofs.lemmas.Bool.{cases_lt}
+use Rattle.leg_lex.specs.Words.{◌>>=◌}
+use Rattle.leg_lib_records.specs.Records.{MasterPinModel}
 use Rattle.leg_design_records.specs.declared.records.Component.{Component}
 use Rattle.leg_design_records.specs.declared.records.Terminal.{Terminal}
 use Rattle.leg_design_records.specs.declared.records.Terminal.TheVariants.{Comp, Pin}
@@ -21,8 +23,8 @@ use Rattle.leg_rules.specs.declared.difference.Change.TheVariants.{Shapes, Macro
 use Rattle.leg_rules.specs.declared.difference.Difference.{Difference}
 use Rattle.leg_rules.specs.declared.difference.Difference.TheVariants.{Changed}
 use Rattle.leg_rules.specs.Compare.Sections.{names_of}
-use Rattle.leg_rules.specs.Compare.Spelling.{pin_name_in, spelled_terminal, spelled_wire}
-use Rattle.leg_rules.specs.Names.{name_by}
+use Rattle.leg_rules.specs.Compare.Spelling.{spelled_wire}
+use Rattle.leg_design_records.specs.Names.{name_by, terminal_names}
 use Rattle.leg_rules.specs.Compare.Differences.{DiffersInPart, DiffersAsVia, DiffersAsComponent, DiffersAsPin, DiffersAsNet, DifferAt, HasChanged, IsDifference}
 use Rattle.leg_rules.specs.Compare.Verdicts.{IsMove}
 use Rattle.leg_compare.proofs.ListsAlike.{all_alike}
@@ -54,9 +56,13 @@ module _ (before : DesignModel) (proper : IsWellFormed before) (components : Lis
       (λ k d e within. same_name_of k (get_or before.components k e) (get_or components k d) (kept_at k e d (omega arith)))
 
   -- so terminals are spelled as before
+  abbrev pin_name : Option Component → ℕ → List ℕ
+  pin_name component k = name_by (λ (pin : MasterPinModel). pin.name)
+      (component >>= λ c. slice_get before.library.masters c.master >>= λ master. slice_get master.pins k)
+
   owner : (c k : ℕ) (old new : Option Component) → slice_get before.components c ≡ old → slice_get components c ≡ new
       → (name_by (λ (m : Component). m.name) new ≡ name_by (λ (m : Component). m.name) old)
-      × (pin_name_in before.library new k ≡ pin_name_in before.library old k)
+      × (pin_name new k ≡ pin_name old k)
   owner c k None None there here = (refl, refl)
   owner c k None (Some new) there here = absurd (past (cases_lt c (length components))) where
     past : (c < length components) ⊎ (length components ≤ c) → ⊥
@@ -70,9 +76,9 @@ module _ (before : DesignModel) (proper : IsWellFormed before) (components : Lis
       let is = kept c old new there here in
       (same_name_of c old new is, ap (λ m. pin_of m k) (same_master_of c old new is)) where
         pin_of : ℕ → ℕ → List ℕ
-        pin_of m n = pin_name_in before.library (Some (record old { master = m })) n
+        pin_of m n = pin_name (Some (record old { master = m })) n
 
-  pub terminal_same : (t : Terminal) → spelled_terminal (record before { components = components }) t ≡ spelled_terminal before t
+  pub terminal_same : (t : Terminal) → terminal_names (record before { components = components }) t ≡ terminal_names before t
   terminal_same (Comp c k) =
       let same = owner c k (slice_get before.components c) (slice_get components c) refl refl in
       λ i. (same.0 i, same.1 i)

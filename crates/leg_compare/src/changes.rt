@@ -1,14 +1,13 @@
 //! What differs between two entries of one name.
 
 ghost use Rattle.std.specs.Prelude.{◌≡◌, ◌↔◌, ◌<◌, length, IsTrue, IfOk};
-ghost use Rattle.leg_design_records.specs.Movable.{MayMove};
 ghost use Rattle.leg_rules.specs.Compare.Sections.{names_of};
 ghost use Rattle.leg_rules.specs.Compare.Differences.{DiffersAsVia, IsOtherStatus, DiffersAsComponent, DiffersAsPin, DiffersAsNet, HasChanged};
 
 use crate::equal::{are_same_shapes, is_same_name, is_same_place};
 use crate::lists::are_same_ports;
 use crate::spelling::{are_same_terminals, go_on, grow};
-use leg_design_records::{Component, Design, Net, Pin, Status};
+use leg_design_records::{Component, Design, Net, Pin, Status, may_move};
 use leg_lib_records::Via;
 use leg_rules::{Change, Section};
 use std::alloc::{AllocError, Allocator};
@@ -30,18 +29,6 @@ fn via_differs<A: Allocator>(change: Change, a: &Via<'_, A>, b: &Via<'_, A>) -> 
     match change {
         Change::Shapes => !is_same_via(a, b),
         _ => false,
-    }
-}
-
-/// Whether a component of this status may be moved.
-fn may_move(status: Status) -> bool
-    ensures { IsTrue result ↔ MayMove status }
-{
-    match status {
-        Status::Unplaced => true,
-        Status::Placed => true,
-        Status::Fixed => false,
-        Status::Cover => false,
     }
 }
 

@@ -1,9 +1,8 @@
 //! The list of all differences.
 
-ghost use Rattle.std.specs.Prelude.{◌≡◌, ◌↔◌, ◌<◌, ◌+◌, suc, [], length, get_or, IsTrue, IfOk, OnOk};
+ghost use Rattle.std.specs.Prelude.{◌≡◌, ◌+◌, [], IfOk, OnOk};
 ghost use Rattle.leg_rules.specs.Compare.Sections.{names_of, AreOfOneName};
-ghost use Rattle.leg_rules.specs.Compare.Differences.{IsDifference};
-ghost use Rattle.leg_rules.specs.Compare.Order.{Rank, part_number, section_number, change_number, AreAllDifferences};
+ghost use Rattle.leg_rules.specs.Compare.Order.{part_number, section_number, change_number, AreAllDifferences};
 ghost use Rattle.leg_compare.specs.Steps.Listing.{AreListedTo, at};
 
 use crate::changes::has_changed;

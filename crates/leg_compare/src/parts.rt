@@ -1,6 +1,6 @@
 //! What a design has once.
 
-ghost use Rattle.std.specs.Prelude.{◌≡◌, ◌↔◌, IsTrue};
+ghost use Rattle.std.specs.Prelude.{◌↔◌, IsTrue};
 ghost use Rattle.leg_rules.specs.Compare.Differences.{DiffersInPart};
 
 use crate::equal::is_same_word;

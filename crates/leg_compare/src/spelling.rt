@@ -2,90 +2,16 @@
 //! The order of terminals means nothing: where they don't stand in one order, both lists are sorted by their words, and each is looked
 //! up in the other.
 
-ghost use Rattle.std.specs.Prelude.{◌≡◌, ◌↔◌, IsTrue, IfOk, map, slice_get, Contains, IsPermutation, IsSorted};
+ghost use Rattle.std.specs.Prelude.{◌≡◌, ◌↔◌, IsTrue, IfOk, map, Contains, IsPermutation, IsSorted};
 ghost use Rattle.leg_compare.specs.Steps.Words.{words_cmp, words_now, AreAmong};
 ghost use Rattle.leg_rules.specs.Compare.Differences.{GoesOn, NetGrows};
 ghost use Rattle.leg_rules.specs.Compare.Spelling.SpelledWire.{via};
-ghost use Rattle.leg_rules.specs.Compare.Spelling.{AreSameTerminals, pin_name_in, spelled_terminal, spelled_terminals, spelled_wire, spelled_wires};
-ghost use Rattle.leg_rules.specs.Names.{via_name, component_name, design_pin_name};
+ghost use Rattle.leg_rules.specs.Compare.Spelling.{AreSameTerminals, spelled_terminals, spelled_wire, spelled_wires};
+ghost use Rattle.leg_design_records.specs.Names.{via_name, terminal_names};
 
 use leg_design_records::{Design, Terminal, Wire};
 use leg_geom::Point;
 use std::alloc::{AllocError, Allocator};
-
-/// The name of the via of this number: those of the library count first. It is empty where there is none.
-fn via_name<'d, A: Allocator + Copy>(design: &'d Design<'_, A>, number: usize) -> &'d [u8]
-    ensures { result.now ≡ via_name design.now number }
-{
-    let of_library = design.library().vias();
-    let of_design = design.vias();
-    let via = if number < of_library.len() {
-        of_library.get(number)
-    } else {
-        of_design.get(number - of_library.len())
-    };
-    match via {
-        Some(via) => via.name.bytes(),
-        None => b"",
-    }
-}
-
-/// The name of the component of this number; empty where there is none.
-fn component_name<'d, A: Allocator + Copy>(design: &'d Design<'_, A>, number: u32) -> &'d [u8]
-    ensures { result.now ≡ component_name design.now number }
-{
-    match design.components().get(number as usize) {
-        Some(component) => component.name.bytes(),
-        None => b"",
-    }
-}
-
-/// The name of a pin of a component, both by their numbers; empty where there is none.
-fn component_pin_name<'d, A: Allocator + Copy>(
-    design: &'d Design<'_, A>,
-    component: u32,
-    pin: usize,
-) -> &'d [u8]
-    ensures { result.now ≡ pin_name_in design.now.library (slice_get design.now.components component) pin }
-{
-    let Some(component) = design.components().get(component as usize) else {
-        return b"";
-    };
-    let Some(master) = design.library().masters().get(component.master) else {
-        return b"";
-    };
-    match master.pins.as_slice().get(pin) {
-        Some(pin) => pin.name.bytes(),
-        None => b"",
-    }
-}
-
-/// The name of the pin of the design of this number; empty where there is none.
-fn design_pin_name<'d, A: Allocator + Copy>(design: &'d Design<'_, A>, number: u32) -> &'d [u8]
-    ensures { result.now ≡ design_pin_name design.now number }
-{
-    match design.pins().get(number as usize) {
-        Some(pin) => pin.name.bytes(),
-        None => b"",
-    }
-}
-
-/// The two words of a terminal: a component and its pin, or `PIN` and a pin of the design.
-fn terminal_words<'d, A: Allocator + Copy>(
-    design: &'d Design<'_, A>,
-    terminal: &Terminal,
-) -> (&'d [u8], &'d [u8])
-    ensures first { result.0.now ≡ (spelled_terminal design.now terminal.now).0 }
-    ensures second { result.1.now ≡ (spelled_terminal design.now terminal.now).1 }
-{
-    match terminal {
-        Terminal::Comp { component, pin } => (
-            component_name(design, *component),
-            component_pin_name(design, *component, *pin),
-        ),
-        Terminal::Pin(number) => (b"PIN", design_pin_name(design, *number)),
-    }
-}
 
 /// The words of the terminals in increasing order, by their bytes.
 fn sorted_words<'d, A: Allocator + Copy>(
@@ -98,7 +24,7 @@ fn sorted_words<'d, A: Allocator + Copy>(
 {
     let mut words = Vec::new(alloc);
     for number in 0..terminals.len() {
-        words.push(terminal_words(design, &terminals[number]))?;
+        words.push(design.terminal_names(&terminals[number]))?;
     }
     words.sort_unstable();
     Ok(words)
@@ -141,10 +67,10 @@ fn is_same_terminal<A: Allocator + Copy>(
     a: &Terminal,
     b: &Terminal,
 ) -> bool
-    ensures { IsTrue result ↔ (spelled_terminal first.now a.now ≡ spelled_terminal second.now b.now) }
+    ensures { IsTrue result ↔ (terminal_names first.now a.now ≡ terminal_names second.now b.now) }
 {
-    let before = terminal_words(first, a);
-    let after = terminal_words(second, b);
+    let before = first.terminal_names(a);
+    let after = second.terminal_names(b);
     before.0 == after.0 && before.1 == after.1
 }
 
@@ -198,7 +124,7 @@ fn is_same_via<A: Allocator + Copy>(
 {
     match wire {
         Wire::ViaAt { via, at: to } => {
-            via_name(first, number) == via_name(second, *via) && *at == *to
+            first.via_name(number) == second.via_name(*via) && *at == *to
         }
         _ => false,
     }

@@ -1,16 +1,17 @@
 -- Each form of a DEF takes a word.
 use Rattle.std.proofs.Common.{◌≡◌, ◌<◌, Bool, true, false, ◌==◌, List, [], ◌∷◌, length, Some, is_some, codes, arith}
-use Rattle.leg_lex.specs.Words.{Words, is_at, keyword_at, end_at}
+use Rattle.leg_lex.specs.Words.{Words, is_at, end_at}
 use Rattle.leg_lex.proofs.Until.{Below, Shortens, below_none, below_some, below_bind, below_ask, below_if, below_more}
-use Rattle.leg_lex.proofs.Shorter.{keyword_below, end_below}
+use Rattle.leg_lex.proofs.Shorter.{end_below}
 use Rattle.leg_lex.proofs.Statements.{statement_below}
-use Rattle.leg_lex.proofs.ReadPast.{past_below}
+use Rattle.leg_lex.proofs.ReadPast.{past_below, past_extension_below}
 use Rattle.leg_grammar.specs.Def.Guard.{when, unless}
 use Rattle.leg_grammar.specs.Def.NetScope.{NetScopeModel}
 use Rattle.leg_design_records.specs.Records.{NetModel}
-use Rattle.leg_grammar.specs.Def.Net.{net_entry, section_word, nets_at}
+use Rattle.leg_grammar.specs.Def.Net.{net_entry, nets_at}
+use Rattle.leg_design_records.specs.Names.{net_section}
 use Rattle.leg_grammar.specs.Def.Parts.{DesignParts, net_scope, divider_form, bus_form, name_form, units_form, die_form, row_form, track_form, vias_form, components_form, pins_form, blockages_form, nets_form, special_form}
-use Rattle.leg_grammar.specs.Def.SkippedForms.{is_past_statement, is_past_section, past_def_section, past_def_extension, past_def_form}
+use Rattle.leg_grammar.specs.Def.SkippedForms.{is_past_statement, is_past_section, past_def_section, past_def_form}
 use Rattle.leg_grammar.specs.Def.Form.{header_form, def_form_at}
 use Rattle.leg_design_common.proofs.Sections.{section_below}
 use Rattle.leg_design.proofs.Headers.{word_after_below, design_name_below, units_below}
@@ -28,7 +29,7 @@ use Rattle.leg_design_nets.proofs.NetEntries.{net_entry_shortens}
 nets_below : (scope : NetScopeModel) (special : Bool) (others : List NetModel) (words : Words) → Below (length words) (nets_at scope special others words)
 unfolding nets_at
 nets_below scope special others words =
-    section_below (section_word special) (net_entry scope special others) (net_entry_shortens scope special others) [] words
+    section_below (net_section special) (net_entry scope special others) (net_entry_shortens scope special others) [] words
 
 -- what is read past
 
@@ -36,12 +37,6 @@ past_section_below : (words : Words) → Below (length words) (past_def_section 
 unfolding past_def_section
 past_section_below [] = below_none 0
 past_section_below (keyword ∷ words) = below_more (omega arith) (past_below (end_at keyword) (end_below keyword) words)
-
-past_extension_below : (words : Words) → Below (length words) (past_def_extension words)
-unfolding past_def_extension
-past_extension_below words =
-    below_bind (omega arith) (keyword_below (codes "BEGINEXT") words) (λ start l.
-    below_more (omega arith) (past_below (keyword_at (codes "ENDEXT")) (keyword_below (codes "ENDEXT")) start.1))
 
 past_form_below : (words : Words) → Below (length words) (past_def_form words)
 unfolding past_def_form

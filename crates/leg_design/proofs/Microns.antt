@@ -14,12 +14,15 @@ unfolding microns_at
 no_units words other = rw (not_there (codes "UNITS") words other) refl
 
 -- or the second doesn't,
-pub no_distance : (words rest : Words) (x : Unit {0}) → keyword_at (codes "UNITS") words ≡ Some (x, rest) → is_at (codes "DISTANCE") rest ≡ false → is_some (microns_at words) ≡ false
+pub no_distance : (words rest : Words) (x : Unit {0}) → keyword_at (codes "UNITS") words ≡ Some (x, rest) → is_at (codes "DISTANCE") rest ≡ false
+    → is_some (microns_at words) ≡ false
 unfolding microns_at
 no_distance words rest x first other = rw (first, not_there (codes "DISTANCE") rest other) refl
 
 -- or both do, and the third decides.
-pub all_but_microns : (words rest last : Words) (x y : Unit {0}) → keyword_at (codes "UNITS") words ≡ Some (x, rest) → keyword_at (codes "DISTANCE") rest ≡ Some (y, last) → is_some (microns_at words) ≡ is_at (codes "MICRONS") last
+pub all_but_microns : (words rest last : Words) (x y : Unit {0})
+    → keyword_at (codes "UNITS") words ≡ Some (x, rest) → keyword_at (codes "DISTANCE") rest ≡ Some (y, last)
+    → is_some (microns_at words) ≡ is_at (codes "MICRONS") last
 unfolding microns_at
 all_but_microns words rest last x y first second =
     rw (first, second) (keyword_is_there (codes "MICRONS") last)

@@ -1,6 +1,6 @@
 //! The forms of a DEF text (LEF/DEF 5.8, "DEF Syntax").
 
-ghost use Rattle.std.specs.Prelude.{◌≡◌, IfOk, codes};
+ghost use Rattle.std.specs.Prelude.{◌≡◌, IfOk};
 ghost use Rattle.leg_lex.specs.Words.{Reads, Means};
 ghost use Rattle.leg_lex.specs.Until.{until};
 ghost use Rattle.leg_lex.specs.Statements.{at_end};

@@ -1,8 +1,8 @@
 //! The forms that add nothing to a design (LEF/DEF 5.8, "DEF Syntax"; lefdef's own rule).
 
-ghost use Rattle.std.specs.Prelude.{◌≡◌, codes};
+ghost use Rattle.std.specs.Prelude.{◌≡◌};
 ghost use Rattle.leg_lex.specs.Words.{Reads};
-ghost use Rattle.leg_grammar.specs.Def.SkippedForms.{is_past_statement, is_past_section, past_def_section, past_def_extension, past_def_form};
+ghost use Rattle.leg_grammar.specs.Def.SkippedForms.{is_past_statement, is_past_section, past_def_section, past_def_form};
 
 use leg_lex::{Cursor, FaultKind, Keyword, Need, ReadFault};
 
@@ -41,15 +41,6 @@ fn past_section(words: &mut Cursor<'_, '_>) -> Result<(), ReadFault>
     words.past_end(keyword)
 }
 
-/// `BEGINEXT`, and everything up to `ENDEXT`.
-#[tactic(auto, unfolding(leg_grammar::specs::Def::SkippedForms::past_def_extension))]
-fn past_extension(words: &mut Cursor<'_, '_>) -> Result<(), ReadFault>
-    ensures { Reads (λ x. x) result words.new (past_def_extension words.old) }
-{
-    words.keyword(b"BEGINEXT")?;
-    words.past_keyword(b"ENDEXT")
-}
-
 /// The fault of words that begin no form.
 fn no_form(words: &Cursor<'_, '_>) -> ReadFault {
     if words.is_at_end() {
@@ -71,7 +62,7 @@ pub(crate) fn past_form(words: &mut Cursor<'_, '_>) -> Result<(), ReadFault>
     } else if is_past_section(words) {
         past_section(words)
     } else if words.is_at(b"BEGINEXT") {
-        past_extension(words)
+        words.past_extension()
     } else {
         Err(no_form(words))
     }

@@ -5,8 +5,9 @@ ghost use Rattle.std.specs.Prelude.{◌≡◌, OnOk, ◌≢◌, IfErr};
 ghost use Rattle.leg_lex.specs.declared.read_fault.FaultKind.TheVariants.{Memory};
 ghost use Rattle.leg_lex.specs.Words.{Reads};
 ghost use Rattle.leg_grammar.specs.Def.Layers.{layer_named_at, with_rect};
-ghost use Rattle.leg_design_records.specs.Layers.{wire_width, width_of_layer, is_routing, has_metal};
+ghost use Rattle.leg_design_records.specs.Layers.{width_of_layer, is_routing, has_metal};
 
+use leg_design_records::wire_width;
 use leg_geom::Rect;
 use leg_lex::{Cursor, FaultKind, NameKind, Need, ReadFault};
 use leg_lib_records::{LayerKind, Library, Shape, ShapeList};
@@ -26,16 +27,6 @@ pub fn layer<A: Allocator + Copy>(
     match library.layer_named(name) {
         Some(number) => Ok(number),
         None => Err(first.need(FaultKind::UnknownName, Need::Known(NameKind::Layer))),
-    }
-}
-
-/// The width of the wires on a layer of this kind, if there are wires.
-fn wire_width(kind: LayerKind) -> Option<i64>
-    ensures { result ≡ wire_width kind }
-{
-    match kind {
-        LayerKind::Routing { width, .. } => Some(width),
-        LayerKind::Cut | LayerKind::Other => None,
     }
 }
 

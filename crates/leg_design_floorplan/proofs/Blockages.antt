@@ -34,7 +34,8 @@ pub no_polygon : (words : Words) → is_at (codes "POLYGON") words ≡ true → 
 unfolding keyword_at next_at
 no_polygon [] there = absurd (false≢true there)
 no_polygon (word ∷ words) there =
-    let same : map to_ascii_lowercase word ≡ map to_ascii_lowercase (codes "POLYGON") = same_name (map to_ascii_lowercase word) (map to_ascii_lowercase (codes "POLYGON")) there in
+    let same : map to_ascii_lowercase word ≡ map to_ascii_lowercase (codes "POLYGON") =
+    same_name (map to_ascii_lowercase word) (map to_ascii_lowercase (codes "POLYGON")) there in
     let other : is_keyword (codes "RECT") word ≡ false = rw same refl in
     rw other refl
 

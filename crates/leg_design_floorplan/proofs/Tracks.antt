@@ -27,7 +27,8 @@ pub no_mask : (library : LibraryModel) (words : Words) → is_at (codes "MASK") 
 unfolding layers_in keyword_at next_at
 no_mask library [] there = absurd (false≢true there)
 no_mask library (word ∷ words) there =
-    let same : map to_ascii_lowercase word ≡ map to_ascii_lowercase (codes "MASK") = same_name (map to_ascii_lowercase word) (map to_ascii_lowercase (codes "MASK")) there in
+    let same : map to_ascii_lowercase word ≡ map to_ascii_lowercase (codes "MASK") =
+    same_name (map to_ascii_lowercase word) (map to_ascii_lowercase (codes "MASK")) there in
     let other : is_keyword (codes "LAYER") word ≡ false = rw same refl in
     rw other refl
 

@@ -1,11 +1,11 @@
 //! Components of a DEF (LEF/DEF 5.8, "Components").
 
-ghost use Rattle.std.specs.Prelude.{◌≡◌, [], Some, None, filter};
+ghost use Rattle.std.specs.Prelude.{◌≡◌, [], filter};
 ghost use Rattle.leg_lex.specs.Words.{Reads, Means};
 ghost use Rattle.leg_lex.specs.Until.{until};
 ghost use Rattle.leg_lex.specs.Statements.{at_most_one, at_end};
 ghost use Rattle.leg_design_records.specs.Records.{component_names};
-ghost use Rattle.leg_grammar.specs.Def.Component.{is_placement, unplaced_in, placement_in, placement_in_any, placement_of, new_name_at, master_at, component_head, component_in, component_entry, components_at};
+ghost use Rattle.leg_grammar.specs.Def.Component.{is_placement, unplaced_in, placement_in, placement_of, new_name_at, master_at, component_head, component_in, component_entry, components_at};
 
 use leg_design_common::clause::all_clauses;
 use leg_design_common::placement::{placed, says_place};

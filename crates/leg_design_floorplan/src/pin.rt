@@ -1,6 +1,6 @@
 //! Pins of a DEF (LEF/DEF 5.8, "Pins").
 
-ghost use Rattle.std.specs.Prelude.{◌≡◌, []};
+ghost use Rattle.std.specs.Prelude.{[]};
 ghost use Rattle.leg_lex.specs.Words.{Reads, Means};
 ghost use Rattle.leg_lex.specs.Until.{until};
 ghost use Rattle.leg_lex.specs.Statements.{at_end};

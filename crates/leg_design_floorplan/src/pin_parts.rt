@@ -1,6 +1,6 @@
 //! What the clauses of a pin give (LEF/DEF 5.8, "Pins").
 
-ghost use Rattle.std.specs.Prelude.{◌≡◌, Some, None, OnOk, IfOk};
+ghost use Rattle.std.specs.Prelude.{◌≡◌, None, OnOk, IfOk};
 ghost use Rattle.leg_lex.specs.Words.{Means};
 ghost use Rattle.leg_lex.specs.Until.{over};
 ghost use Rattle.leg_grammar.specs.Def.PinClauses.{no_pin_clauses, net_of_pin, word_in, last_port, all_ports, port_start, port_rect, port_place, pin_net_clause, direction_clause, pin_use_clause, pin_clause};

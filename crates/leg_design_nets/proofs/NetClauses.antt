@@ -33,7 +33,8 @@ plus_is (b ∷ []) = rw (lower_plus b) refl
 plus_is (b ∷ c ∷ bytes) = rw (lower_plus b) refl
 
 -- a word that is no plus,
-pub from_plus_on : (words : Words) (word : List ℕ) (rest : Words) → is_at (codes "+") words ≡ false → next_at words ≡ Some (word, rest) → from_plus words ≡ from_plus rest
+pub from_plus_on : (words : Words) (word : List ℕ) (rest : Words) → is_at (codes "+") words ≡ false → next_at words ≡ Some (word, rest)
+    → from_plus words ≡ from_plus rest
 unfolding from_plus next_at
 from_plus_on [] word rest other said = absurd (let e : ⊥ = cc in e)
 from_plus_on (first ∷ words) word rest other said =

@@ -87,16 +87,23 @@ pub added_end : (name : List ℕ) (nets : List NetModel) (before : List Terminal
 added_end name nets before xs i past = over_ends (add_terminal name nets) before xs i past
 
 -- the loop over the pairs of parentheses, which leaves the entries before
-pub terminals_on : (scope : NetScopeModel) (special : Bool) (name : List ℕ) (nets now others : List NetModel) (terminals more : List Terminal) (words rest : Words) → now ≡ nets → terminal_form scope special name (now ++ others) terminals words ≡ Some (more, rest) → is_at (codes "(") words ≡ true → until at_no_terminal (terminal_form scope special name (nets ++ others)) terminals words ≡ until at_no_terminal (terminal_form scope special name (nets ++ others)) more rest
+pub terminals_on : (scope : NetScopeModel) (special : Bool) (name : List ℕ) (nets now others : List NetModel) (terminals more : List Terminal)
+    (words rest : Words) → now ≡ nets
+    → terminal_form scope special name (now ++ others) terminals words ≡ Some (more, rest) → is_at (codes "(") words ≡ true
+    → until at_no_terminal (terminal_form scope special name (nets ++ others)) terminals words
+    ≡ until at_no_terminal (terminal_form scope special name (nets ++ others)) more rest
 terminals_on scope special name nets now others terminals more words rest kept said there =
     loops.goes_on at_no_terminal (terminal_form scope special name (nets ++ others))
     (terminal_form_shortens scope special name (nets ++ others)) terminals more words rest (rw there refl) (rw (← kept) said)
 
-pub terminals_fail : (scope : NetScopeModel) (special : Bool) (name : List ℕ) (nets now others : List NetModel) (terminals : List Terminal) (words : Words) → now ≡ nets → terminal_form scope special name (now ++ others) terminals words ≡ None → is_at (codes "(") words ≡ true → until at_no_terminal (terminal_form scope special name (nets ++ others)) terminals words ≡ None
+pub terminals_fail : (scope : NetScopeModel) (special : Bool) (name : List ℕ) (nets now others : List NetModel) (terminals : List Terminal) (words : Words)
+    → now ≡ nets → terminal_form scope special name (now ++ others) terminals words ≡ None → is_at (codes "(") words ≡ true
+    → until at_no_terminal (terminal_form scope special name (nets ++ others)) terminals words ≡ None
 terminals_fail scope special name nets now others terminals words kept said there =
     loops.fails at_no_terminal (terminal_form scope special name (nets ++ others)) terminals words (rw there refl) (rw (← kept) said)
 
-pub terminals_end : (scope : NetScopeModel) (special : Bool) (name : List ℕ) (nets : List NetModel) (terminals : List Terminal) (words : Words) → is_at (codes "(") words ≡ false → until at_no_terminal (terminal_form scope special name nets) terminals words ≡ Some (terminals, words)
+pub terminals_end : (scope : NetScopeModel) (special : Bool) (name : List ℕ) (nets : List NetModel) (terminals : List Terminal) (words : Words)
+    → is_at (codes "(") words ≡ false → until at_no_terminal (terminal_form scope special name nets) terminals words ≡ Some (terminals, words)
 terminals_end scope special name nets terminals words other =
     loops.ends at_no_terminal (terminal_form scope special name nets) terminals words (rw other refl)
 

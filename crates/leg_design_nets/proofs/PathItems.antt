@@ -128,7 +128,8 @@ plus_alone (b ∷ c ∷ bytes) is = absurd (let e : ⊥ = cc in e)
 -- whether a word is the plus, asked in small letters or not
 plus_either_way : (word : List ℕ) → is_keyword (codes "+") word ≡ bytes_eq word (codes "+")
 plus_either_way word = by (bytes_eq word (43 ∷ [])) refl (bytes_eq (map to_ascii_lowercase word) (43 ∷ [])) refl where
-  by : (plain : Bool) → bytes_eq word (43 ∷ []) ≡ plain → (small : Bool) → bytes_eq (map to_ascii_lowercase word) (43 ∷ []) ≡ small → is_keyword (codes "+") word ≡ bytes_eq word (codes "+")
+  by : (plain : Bool) → bytes_eq word (43 ∷ []) ≡ plain → (small : Bool) → bytes_eq (map to_ascii_lowercase word) (43 ∷ []) ≡ small
+      → is_keyword (codes "+") word ≡ bytes_eq word (codes "+")
   by true p true q = q ∙ sym p
   by false p false q = q ∙ sym p
   by true p false q = absurd (names_apart (map to_ascii_lowercase word) (43 ∷ []) q (ap (map to_ascii_lowercase) (same_name word (43 ∷ []) p)))

@@ -17,7 +17,8 @@ use Rattle.leg_grammar.specs.Def.NetScope.{NetScopeModel}
 use Rattle.leg_grammar.specs.Def.Terminal.{is_of_other_net, at_no_terminal, terminal_form}
 use Rattle.leg_grammar.specs.Def.Wiring.{is_wiring}
 use Rattle.leg_design_records.specs.Records.{NetModel, net_names, terminal_count, wire_count}
-use Rattle.leg_grammar.specs.Def.Net.{NetParts, no_net_parts, is_left_out, use_clause, wiring_clause, past_clause, clause_at, net_clause, net_name_at, net_in, are_too_many, net_entry, section_word, nets_at}
+use Rattle.leg_grammar.specs.Def.Net.{NetParts, no_net_parts, is_left_out, use_clause, wiring_clause, past_clause, clause_at, net_clause, net_name_at, net_in, are_too_many, net_entry, nets_at}
+use Rattle.leg_design_records.specs.Names.{net_section}
 use Rattle.leg_design_records.specs.WellFormedParts.{IsKept}
 use Rattle.leg_design_records.specs.WellFormedNets.{IsWire, AreInOneNet}
 use Rattle.leg_design_common.proofs.Gives.{Gives, gives_none, gives_some, gives_bind, gives_skip, gives_if, unless_gives, name_gives, word_gives, section_gives}
@@ -164,4 +165,4 @@ module _ (scope : NetScopeModel) (special : Bool) where
     pub nets_give : AreEntries [] → (words : Words) → Gives (λ said. AreEntries said.0) (nets_at scope special others words)
     unfolding nets_at
     nets_give none words =
-        section_gives AreEntries (section_word special) (net_entry scope special others) entry_gives [] words none
+        section_gives AreEntries (net_section special) (net_entry scope special others) entry_gives [] words none

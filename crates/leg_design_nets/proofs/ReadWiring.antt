@@ -15,7 +15,6 @@ use Rattle.leg_grammar.specs.Def.Guard.{unless}
 use Rattle.leg_design_records.specs.Layers.{is_routing}
 use Rattle.leg_grammar.specs.Def.NetScope.{NetScopeModel, via_named}
 use Rattle.leg_grammar.specs.declared.path_item.Item.{Item}
-use Rattle.leg_grammar.specs.Def.Path.{}
 use Rattle.leg_grammar.specs.Def.PathItem.{count_at, coordinate_at, extension_in_point, point_item, first_point_at, rect_item, past_north, via_item, item_at, one_item, at_path_end}
 use Rattle.leg_grammar.specs.Def.Wiring.{routing_at, past_taper, written_width_at, at_no_shape, past_shape, written_at, path_at, at_no_new, new_path, paths_at, wiring_start, wiring_at}
 use Rattle.leg_design_records.specs.Wires.{is_even}
@@ -101,7 +100,9 @@ module _ (scope : NetScopeModel) (special : Bool) where
   unfolding item_at
   item_gives words =
       gives_if (is_at (codes "(") words) (point_item_gives words)
-      (gives_choice (is_at (codes "RECT") words && not special) (λ rect. rect_item_gives (not_special (is_at (codes "RECT") words) special rect) words) (λ via. via_item_gives words))
+      (gives_choice (is_at (codes "RECT") words && not special)
+      (λ rect. rect_item_gives (not_special (is_at (codes "RECT") words) special rect) words)
+      (λ via. via_item_gives words))
 
   abbrev AreItems : List Item → Type 0
   AreItems items = All (IsItem special) items

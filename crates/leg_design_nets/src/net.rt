@@ -9,14 +9,14 @@ ghost use Rattle.leg_design_records.specs.declared.limits.TheConstants.{ENTRY_LI
 ghost use Rattle.leg_grammar.specs.Def.Guard.{is_over};
 ghost use Rattle.leg_design_records.specs.Records.{net_names};
 ghost use Rattle.leg_grammar.specs.Def.Terminal.{add_terminal, terminal_form, at_no_terminal};
-ghost use Rattle.leg_grammar.specs.Def.Net.{no_net_parts, is_left_out_of_wiring, is_left_out, use_clause, wiring_clause, from_plus, past_clause, clause_at, net_clause, net_name_at, net_in, net_entry, section_word, nets_at};
+ghost use Rattle.leg_grammar.specs.Def.Net.{no_net_parts, is_left_out_of_wiring, is_left_out, use_clause, wiring_clause, from_plus, past_clause, clause_at, net_clause, net_name_at, net_in, net_entry, nets_at};
 
 use crate::known_pins::KnownPins;
 use crate::net_table::{NetTable, NetsBegun};
 use crate::terminal::terminals;
 use crate::wiring::{is_wiring, wiring};
 use leg_design_common::{NetScope, section_start};
-use leg_design_records::{ENTRY_LIMIT, Terminal, Wire};
+use leg_design_records::{ENTRY_LIMIT, Terminal, Wire, net_section};
 use leg_lex::{Cursor, Entry, FaultKind, Name, NameKind, Need, ReadFault, is_keyword};
 use std::alloc::Allocator;
 use std::marker::Model;
@@ -338,13 +338,6 @@ fn indexed_entries<'a, A: Allocator + Copy>(
     entries(alloc, &scope, special, others, words)
 }
 
-/// The keyword of a section of nets.
-fn section_word(special: bool) -> &'static [u8]
-    ensures { result.now ≡ section_word special }
-{
-    if special { b"SPECIALNETS" } else { b"NETS" }
-}
-
 /// The section `NETS`, or `SPECIALNETS` where `special`; the other section has the entries `others`.
 #[tactic(auto, unfolding(leg_grammar::specs::Def::Net::nets_at, leg_grammar::specs::Def::Section::section_at))]
 pub fn nets<'a, A: Allocator + Copy>(
@@ -356,12 +349,12 @@ pub fn nets<'a, A: Allocator + Copy>(
 ) -> Result<NetTable<'a, A>, ReadFault>
     ensures { Reads (λ t. t) result words.new (nets_at scope.now special others.now words.old) }
 {
-    section_start(section_word(special), words)?;
+    section_start(net_section(special), words)?;
     let start = words.again();
     let table = match indexed_entries(alloc, scope, special, others, words) {
         Ok(table) => table,
         Err(fault) => return Err(start.with_first_entry(fault)),
     };
-    words.end(section_word(special))?;
+    words.end(net_section(special))?;
     Ok(table)
 }

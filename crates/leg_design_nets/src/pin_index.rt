@@ -1,6 +1,6 @@
 //! An index of the pins of macros by their names, and of components by their macros.
 
-ghost use Rattle.std.specs.Prelude.{◌≡◌, ◌<◌, ℕ, List, true, map, get_or, is_some, length, IfOk, OnOk};
+ghost use Rattle.std.specs.Prelude.{◌≡◌, ℕ, List, true, map, is_some, length, IfOk, OnOk};
 ghost use Rattle.leg_lex.specs.NameLookup.{place_of};
 ghost use Rattle.leg_design_nets.specs.Steps.Pins.{is_in, numbers_under, place_in_table, place_in_tables, used_names, AreListed, ArePinPlaces, AreUnder};
 
@@ -101,7 +101,8 @@ fn add_master<'a, A: Allocator + Copy>(
     pins: &[MasterPin<'a, A>],
     table: &mut ByName<'a, A>,
 ) -> Result<(), AllocError>
-    ensures added { OnOk result ((name : List ℕ) → is_some (place_of name (map (λ p. p.name) pins.now)) ≡ true → is_in number (numbers_under table.new name) ≡ true) }
+    ensures added { OnOk result ((name : List ℕ) → is_some (place_of name (map (λ p. p.name) pins.now)) ≡ true
+        → is_in number (numbers_under table.new name) ≡ true) }
     ensures kept { OnOk result ((name : List ℕ) (m : ℕ) → is_in m (numbers_under table.old name) ≡ true → is_in m (numbers_under table.new name) ≡ true) }
 {
     for pin in pins {

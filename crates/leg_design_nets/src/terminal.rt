@@ -1,6 +1,6 @@
 //! Terminals of nets (LEF/DEF 5.8, "Nets", "Special Nets").
 
-ghost use Rattle.std.specs.Prelude.{◌≡◌, ◌∷◌, [], ◌&&◌, if◌then◌else◌, codes};
+ghost use Rattle.std.specs.Prelude.{◌∷◌, [], ◌&&◌, if◌then◌else◌, codes};
 ghost use Rattle.leg_lex.specs.Words.{Reads, Means, is_at};
 ghost use Rattle.leg_grammar.specs.Def.Terminal.{component_terminal, pin_terminal, one_terminal_at, all_terminals_at, past_synthesized, terminals_at};
 

@@ -1,6 +1,6 @@
 //! Which entry of a section lists a terminal.
 
-ghost use Rattle.std.specs.Prelude.{◌≡◌, ◌<◌, ℕ, cond, None, Some, OnOk, OnErr};
+ghost use Rattle.std.specs.Prelude.{◌≡◌, ◌<◌, cond, None, Some, OnOk};
 ghost use Rattle.std.specs.HashMap.{spare};
 ghost use Rattle.leg_design_records.specs.declared.records.Terminal.{Terminal};
 ghost use Rattle.leg_design_records.specs.Terminals.{is_same_terminal};

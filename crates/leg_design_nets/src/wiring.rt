@@ -3,7 +3,7 @@
 ghost use Rattle.std.specs.Prelude.{◌≡◌, ◌&&◌, drop, Some, codes};
 ghost use Rattle.leg_lex.specs.Words.{Reads, Means, is_at};
 ghost use Rattle.leg_lex.specs.Until.{until};
-ghost use Rattle.leg_grammar.specs.Def.Wiring.{routing_at, past_taper, written_width_at, at_no_shape, past_shape, written_at, path_at, at_no_new, new_path, paths_at, is_wiring, wiring_start, wiring_at};
+ghost use Rattle.leg_grammar.specs.Def.Wiring.{routing_at, past_taper, written_width_at, at_no_shape, past_shape, written_at, at_no_new, new_path, paths_at, is_wiring, wiring_start, wiring_at};
 ghost use Rattle.leg_design_nets.specs.Steps.Walk.{path_behind};
 ghost use Rattle.leg_design_records.specs.Wires.{is_even};
 

@@ -35,11 +35,7 @@ pub no_second_number : (v : Fault) → kind_number v < kind_number (Overlap 0 0)
 no_second_number (Unplaced c) few = refl
 no_second_number (Outside c) few = refl
 no_second_number (OffSite c) few = refl
-no_second_number (Overlap a b) few = absurd (omega (arith, few))
-no_second_number (Blocked c) few = absurd (omega (arith, few))
-no_second_number (Short a b) few = absurd (omega (arith, few))
-no_second_number (TooNear a b) few = absurd (omega (arith, few))
-no_second_number (OpenNet n k) few = absurd (omega (arith, few))
+no_second_number other few = absurd (omega (arith, few))
 
 -- a violation of a lower kind comes first
 pub lower_kind_first : (v w : Fault) → kind_number v < kind_number w → ComesBefore v w

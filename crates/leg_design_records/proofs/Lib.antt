@@ -6,6 +6,8 @@ mod MovedNets
 mod NetReferences
 mod NetWires
 mod AllNetWires
+-- Parts of a design by their numbers
+mod Elements
 -- What the proofs of other crates cite
 pub mod ComponentMacro
 pub mod MovableOrNot

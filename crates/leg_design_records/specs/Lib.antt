@@ -3,6 +3,7 @@ pub mod Layers
 pub mod Rows
 pub mod Wires
 pub mod Terminals
+pub mod Names
 pub mod MoreWires
 pub mod WellFormedParts
 pub mod WellFormedNets

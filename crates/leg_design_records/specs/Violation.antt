@@ -1,5 +1,5 @@
 -- Violations in order (lefdef's own rules): by kind, and within a kind by number or by pair of numbers.
-use Rattle.std.specs.Prelude.{◌≡◌, ℕ, ◌≤◌, ◌<◌, List, All, AllPairs, Contains}
+use Rattle.std.specs.Prelude.{◌≡◌, ℕ, ◌≤◌, ◌<◌, List, [], ◌∷◌, All, AllPairs, Contains}
 use Rattle.leg_design_records.specs.declared.fault.Fault.{Fault}
 use Rattle.leg_design_records.specs.declared.fault.Fault.TheVariants.{Unplaced, Outside, OffSite, Overlap, Blocked, Short, TooNear, OpenNet}
 
@@ -24,6 +24,17 @@ numbers_of (Blocked c) = (c, 0)
 numbers_of (Short a b) = (a, b)
 numbers_of (TooNear a b) = (a, b)
 numbers_of (OpenNet n k) = (n, k)
+
+-- the components that it names by their numbers; a violation of metal names shapes, or a net and its pieces, and no component
+abbrev pub components_of : Fault → List ℕ
+components_of (Unplaced c) = c ∷ []
+components_of (Outside c) = c ∷ []
+components_of (OffSite c) = c ∷ []
+components_of (Overlap a b) = a ∷ b ∷ []
+components_of (Blocked c) = c ∷ []
+components_of (Short a b) = []
+components_of (TooNear a b) = []
+components_of (OpenNet n k) = []
 
 -- the first violation comes before the second in a list
 pub record ComesBefore (v w : Fault) : Type 0 where

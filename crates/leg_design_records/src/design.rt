@@ -37,7 +37,21 @@ impl<'a, A: Allocator + Copy> Model for DesignFields<'a, A> {
 
     ghost Value = { DesignModel };
 
-    ghost view = { λ d. record { library = d.library.now; name = d.name; divider = d.divider; bus = d.bus; die = d.die; rows = d.rows.items; tracks = d.tracks.items; vias = d.vias.items; components = d.components.items; pins = d.pins.items; blockages = map blockage_said d.blockages.items; nets = d.nets.items; special = d.special.items } };
+    ghost view = { λ d. record {
+      library = d.library.now;
+      name = d.name;
+      divider = d.divider;
+      bus = d.bus;
+      die = d.die;
+      rows = d.rows.items;
+      tracks = d.tracks.items;
+      vias = d.vias.items;
+      components = d.components.items;
+      pins = d.pins.items;
+      blockages = map blockage_said d.blockages.items;
+      nets = d.nets.items;
+      special = d.special.items;
+    } };
 }
 
 /// A design, in file order, with the library that it was read with. Contracts see it as its record, which has the

@@ -8,11 +8,16 @@ mod design;
 mod design_change;
 mod fault;
 pub mod laws;
+mod layers;
 mod limits;
 mod movable;
+mod names;
 mod records;
 
 pub use design::{Design, DesignFields};
 pub use fault::Fault;
+pub use layers::wire_width;
 pub use limits::{ENTRY_LIMIT, PART_LIMIT};
+pub use movable::may_move;
+pub use names::net_section;
 pub use records::{Axis, Blockage, Component, Net, Pin, Port, Row, Status, Terminal, Track, Wire};

@@ -8,7 +8,7 @@ use crate::records::Status;
 use std::alloc::Allocator;
 
 /// Whether a component of this status may be moved.
-fn may_move(status: Status) -> bool
+pub fn may_move(status: Status) -> bool
     ensures { IsTrue result ↔ MayMove status }
 {
     match status {

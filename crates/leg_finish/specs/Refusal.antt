@@ -2,10 +2,11 @@
 use Rattle.std.specs.Prelude.{◌<◌, length}
 use Rattle.leg_design_records.specs.declared.limits.TheConstants.{PART_LIMIT}
 use Rattle.leg_design_records.specs.Records.{DesignModel}
-use Rattle.leg_flat.specs.declared.fault.FlatFault.{FlatFault}
 use Rattle.leg_flat.specs.declared.fault.FlatFault.TheVariants as flat_fault
 use Rattle.leg_rules.specs.Metal.Metal.{metal_of}
 use Rattle.leg_rules.specs.Metal.Flat.{FlatModel, IsJudgedBy}
+use Rattle.leg_check.specs.declared.fault.CleanFlatFault.{CleanFlatFault}
+use Rattle.leg_check.specs.declared.fault.CleanFlatFault.TheVariants as clean_flat
 use Rattle.leg_route_grid.specs.declared.fault.GridFault.{GridFault}
 use Rattle.leg_route_grid.specs.declared.fault.GridFault.TheVariants as grid_fault
 use Rattle.leg_rules.specs.declared.grid_limits.TheConstants.{GREATEST_GRID}
@@ -26,11 +27,12 @@ IsFinishRefusal design (Unfinished nets) = (flat : FlatModel) × ComesToSearch d
 IsFinishRefusal design TooMany = PART_LIMIT < length (metal_of design)
 IsFinishRefusal design Memory = Unit {0}
 
--- what a refusal to flatten or to add a wire is here, and a refusal of the grid
-abbrev pub of_flat : {A : Type 0} → FlatFault → FinishFault A
-of_flat flat_fault.TooMany = TooMany
-of_flat flat_fault.Memory = Memory
-
+-- what a refusal of the grid is here, and why there is no clean flat
 abbrev pub of_grid : {A : Type 0} → GridFault → FinishFault A
 of_grid grid_fault.TooLarge = GridTooLarge
 of_grid grid_fault.Memory = Memory
+
+abbrev pub of_clean_flat : {A : Type 0} → CleanFlatFault A → FinishFault A
+of_clean_flat (clean_flat.NoFlat flat_fault.TooMany) = TooMany
+of_clean_flat (clean_flat.NoFlat flat_fault.Memory) = Memory
+of_clean_flat (clean_flat.NotClean faults) = NotClean faults

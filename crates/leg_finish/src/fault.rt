@@ -2,13 +2,14 @@
 
 ghost use Rattle.std.specs.Prelude.{◌≡◌};
 ghost use Rattle.leg_finish.specs.declared.fault.FinishFault.TheVariants.{Memory};
-ghost use Rattle.leg_finish.specs.Refusal.{of_flat, of_grid};
+ghost use Rattle.leg_finish.specs.Refusal.{of_clean_flat, of_grid};
 
+use leg_check::CleanFlatFault;
 use leg_design_records::Fault;
 use leg_flat::FlatFault;
 use leg_lib_records::Items;
 use leg_route_grid::GridFault;
-use std::alloc::{AllocError, AllocFailed, Allocator};
+use std::alloc::{AllocError, Allocator};
 
 /// The cause for which a design isn't finished (lefdef's own rules). Of several, the first in this order is reported, apart from
 /// memory.
@@ -38,25 +39,6 @@ impl<A: Allocator> From<AllocError> for FinishFault<A> {
     }
 }
 
-impl<T: Drop, A: Allocator> From<AllocFailed<T>> for FinishFault<A> {
-    ghost from_gives = { λ _ e. e ≡ Memory };
-
-    fn from(_e: AllocFailed<T>) -> FinishFault<A> {
-        FinishFault::Memory
-    }
-}
-
-impl<A: Allocator> From<FlatFault> for FinishFault<A> {
-    ghost from_gives = { λ f e. e ≡ of_flat f };
-
-    fn from(fault: FlatFault) -> FinishFault<A> {
-        match fault {
-            FlatFault::TooMany => FinishFault::TooMany,
-            FlatFault::Memory => FinishFault::Memory,
-        }
-    }
-}
-
 impl<A: Allocator> From<GridFault> for FinishFault<A> {
     ghost from_gives = { λ f e. e ≡ of_grid f };
 
@@ -64,6 +46,18 @@ impl<A: Allocator> From<GridFault> for FinishFault<A> {
         match fault {
             GridFault::TooLarge => FinishFault::GridTooLarge,
             GridFault::Memory => FinishFault::Memory,
+        }
+    }
+}
+
+impl<A: Allocator> From<CleanFlatFault<A>> for FinishFault<A> {
+    ghost from_gives = { λ f e. e ≡ of_clean_flat f };
+
+    fn from(fault: CleanFlatFault<A>) -> FinishFault<A> {
+        match fault {
+            CleanFlatFault::NoFlat(FlatFault::TooMany) => FinishFault::TooMany,
+            CleanFlatFault::NoFlat(FlatFault::Memory) => FinishFault::Memory,
+            CleanFlatFault::NotClean(faults) => FinishFault::NotClean(faults),
         }
     }
 }

@@ -11,13 +11,13 @@ ghost use Rattle.leg_finish.specs.Refusal.{IsFinishRefusal};
 ghost use Rattle.leg_rules.specs.Finish.Wires.{AddsToOpenNets, AddsWalks, HaveTotals};
 ghost use Rattle.leg_finish.specs.Steps.Judgement.{AreFinishing};
 
-use crate::clean_flat::clean_flat;
 use crate::fault::FinishFault;
 use crate::found::{Found, found_wires};
 use crate::groups::open_nets;
 use crate::layout::empty_lists;
 use crate::totals::{WireTotals, totals_of};
 use crate::unfinished::why_unfinished;
+use leg_check::clean_flat;
 use leg_design_records::laws::design_is_sound;
 use leg_design_records::{Design, Wire};
 use leg_finish_search::{Budget, Progress};
@@ -57,7 +57,7 @@ pub fn finish<'a, A: Allocator + Copy, P: Progress>(
 ///
 /// What an entry gets are the wires of walks over the grid of tracks, one walk after another, each spelled as `route` of `leg_route`
 /// spells its own. The walks are found by negotiation (see `negotiate` of `leg_finish_search`), and nothing is claimed of how many or
-/// how long they are. The design is given only if the calls by which `check` judges find nothing wrong with it.
+/// how long they are. The design is given only if it is legal, for which it is judged as `check` judges.
 ///
 /// The library is the one that the design was read with. On each refusal the design comes back unchanged: `TooMany` where it has
 /// more shapes than a flat may have, else `NotClean` with all violations of other kinds than open nets, else `GridTooLarge`, else
@@ -82,7 +82,7 @@ pub fn finish_within<'a, A: Allocator + Copy, P: Progress>(
     ensures unchanged { IfErr result (λ back. back.0 ≡ design.entry) }
     ensures refused { IfErr result (λ back. IsFinishRefusal design.entry back.1) }
 {
-    match wires_for(alloc, library, &design, budget, progress) {
+    match wires_for(alloc, &design, budget, progress) {
         Ok(lists) => add_all(design, lists),
         Err(fault) => Err((design, fault)),
     }
@@ -124,18 +124,16 @@ fn add_all<'a, A: Allocator + Copy>(
 /// For each entry of `NETS` the wires with which the design is finished.
 fn wires_for<A: Allocator + Copy, P: Progress>(
     alloc: A,
-    library: &Library<'_, A>,
     design: &Design<'_, A>,
     budget: Budget,
     progress: &mut P,
 ) -> Result<Vec<Vec<Wire, A>, A>, FinishFault<A>>
-    requires { library.now ≡ design.now.library }
     ensures found { IfOk result (λ lists. AreFinishing design.now (map (λ wires. wires.items) lists.items)) }
     ensures refused { IfErr result (λ fault. IsFinishRefusal design.now fault) }
 {
     no_wires_by_net();
     design_has_one_flat();
-    let flat = clean_flat(alloc, library, design)?;
+    let flat = clean_flat(alloc, design)?;
     let grid = Grid::new_within(alloc, design, GREATEST_GRID)?;
     let nets = open_nets(alloc, design, &flat)?;
     if nets.is_empty() {
@@ -144,6 +142,6 @@ fn wires_for<A: Allocator + Copy, P: Progress>(
     }
     match found_wires(alloc, design, &grid, flat, &nets, budget, progress)? {
         Found::Wires(lists) => Ok(lists),
-        Found::Left(left) => Err(why_unfinished(alloc, library, design, &grid, &nets, &left)),
+        Found::Left(left) => Err(why_unfinished(alloc, design, &grid, &nets, &left)),
     }
 }

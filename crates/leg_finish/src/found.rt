@@ -1,7 +1,6 @@
 //! Wires that are found for a design and judged.
 
-ghost use Rattle.std.specs.Prelude.{◌≡◌, ◌≢◌, ◌<◌, ◌≤◌, ◌^◌, [], All, AllPairs, length, IfOk};
-ghost use Rattle.leg_rules.specs.Metal.Flat.{IsFlatOf};
+ghost use Rattle.std.specs.Prelude.{◌≡◌, ◌≢◌, ◌<◌, ◌^◌, [], All, AllPairs, length, IfOk};
 ghost use Rattle.leg_rules.specs.Finish.Refusal.{ComesToSearch};
 ghost use Rattle.leg_finish.specs.Steps.OpenNets.{AreOpenNets};
 ghost use Rattle.leg_finish.specs.Steps.Places.{ArePlacesIn};

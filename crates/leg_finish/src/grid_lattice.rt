@@ -5,9 +5,10 @@ ghost use Rattle.leg_route_grid.specs.Steps.Grid.{slot_total};
 
 use leg_design_records::Design;
 use leg_finish_search::{Element, GridPoint, Lattice, Part};
-use leg_lib_records::{Direction, Layer};
+use leg_lib_records::Direction;
 use leg_route_access::{SlotAccess, square};
 use leg_route_grid::{Grid, Slot, grid_is_sound};
+use leg_wire_spacing::greatest_spacing_on;
 use std::alloc::{AllocError, Allocator};
 
 /// A grid, and to which nets each of its nodes and steps is open.
@@ -81,14 +82,6 @@ impl<'s, 'g, 'a, A: Allocator + Copy> Lattice for GridLattice<'s, 'g, 'a, A> {
     }
 }
 
-/// The spacing of the layer of this number; 0 where there is none.
-fn spacing_of(layers: &[Layer<'_>], layer: usize) -> i64 {
-    match layers.get(layer) {
-        Some(layer) => layer.spacing,
-        None => 0,
-    }
-}
-
 /// Adds the rectangles of the via of this number, where there is one, as those of the steps up from this level.
 fn push_via<A: Allocator + Copy>(
     design: &Design<'_, A>,
@@ -112,7 +105,7 @@ fn push_via<A: Allocator + Copy>(
             level,
             layer: shape.layer,
             rect: shape.rect,
-            spacing: spacing_of(library.layers(), shape.layer),
+            spacing: greatest_spacing_on(library, shape.layer) as i64,
         })?;
     }
     Ok(())
@@ -135,7 +128,7 @@ pub(crate) fn parts_of<A: Allocator + Copy>(
             level,
             layer: layer.number,
             rect: square(layer.width),
-            spacing: spacing_of(design.library().layers(), layer.number),
+            spacing: greatest_spacing_on(design.library(), layer.number) as i64,
         })?;
         push_via(design, level, grid.via_at(level), &mut parts)?;
     }

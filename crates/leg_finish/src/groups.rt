@@ -1,6 +1,6 @@
 //! Which pieces of nets are joined already, and which nets are open.
 
-ghost use Rattle.std.specs.Prelude.{◌≡◌, ◌≢◌, ◌↔◌, ◌<◌, ◌≤◌, ◌+◌, ◌^◌, Any, length, IsTrue, IfOk, OnOk};
+ghost use Rattle.std.specs.Prelude.{◌≢◌, ◌↔◌, ◌<◌, ◌≤◌, ◌+◌, ◌^◌, Any, length, IsTrue, IfOk, OnOk};
 ghost use Rattle.leg_design_records.specs.declared.limits.TheConstants.{PART_LIMIT};
 ghost use Rattle.leg_design_records.specs.Records.{DesignModel};
 ghost use Rattle.leg_wire.specs.NetShapes.{AreNumbersOf};

@@ -1,6 +1,6 @@
 //! Whether anything is wrong with a flat that has grown.
 
-ghost use Rattle.std.specs.Prelude.{◌≡◌, ◌↔◌, ◌≤◌, ◌^◌, IsTrue, length, IfOk};
+ghost use Rattle.std.specs.Prelude.{◌↔◌, ◌≤◌, IsTrue, length, IfOk};
 ghost use Rattle.leg_design_records.specs.declared.limits.TheConstants.{PART_LIMIT};
 ghost use Rattle.leg_finish.specs.Steps.Judgement.{HasNoMetalFault};
 

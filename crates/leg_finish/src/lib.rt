@@ -1,7 +1,6 @@
 //! The router that finishes: wires for all open nets, found by negotiation and judged before they are given.
 #![tactic(auto)]
 
-mod clean_flat;
 mod fault;
 mod finishing;
 mod found;

@@ -1,6 +1,6 @@
 //! The nodes of open nets, group by group.
 
-ghost use Rattle.std.specs.Prelude.{◌≡◌, ◌<◌, ℕ, All, length, IfOk, OnOk};
+ghost use Rattle.std.specs.Prelude.{◌≡◌, ◌<◌, ℕ, All, length, IfOk};
 ghost use Rattle.leg_route_grid.specs.Steps.Grid.{slot_total};
 ghost use Rattle.leg_finish_search.specs.Slots.{AreSlots, AreSlotLists};
 

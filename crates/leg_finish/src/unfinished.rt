@@ -9,12 +9,12 @@ ghost use Rattle.leg_finish.specs.Refusal.{IsFinishRefusal};
 ghost use Rattle.leg_finish.specs.Steps.OpenNets.{AreOpenNets};
 ghost use Rattle.leg_finish.specs.Steps.Places.{ArePlacesIn, IsNetAt};
 
-use crate::clean_flat::clean_flat;
 use crate::fault::FinishFault;
 use crate::groups::OpenNet;
 use crate::reach::first_unreachable;
+use leg_check::clean_flat;
 use leg_design_records::Design;
-use leg_lib_records::{Items, Library};
+use leg_lib_records::Items;
 use leg_route_grid::Grid;
 use std::alloc::{AllocError, Allocator};
 
@@ -38,13 +38,11 @@ fn nets_at<A: Allocator + Copy>(
 /// cannot be reached, or else that the nets are left. The flat is made anew.
 fn cause_of<A: Allocator + Copy>(
     alloc: A,
-    library: &Library<'_, A>,
     design: &Design<'_, A>,
     grid: &Grid<'_, '_, A>,
     nets: &[OpenNet<A>],
     left: &[u32],
 ) -> Result<FinishFault<A>, FinishFault<A>>
-    requires library { library.now ≡ design.now.library }
     requires of_design { grid.now.design ≡ design.now }
     requires fits { ¬ IsGridBeyond GREATEST_GRID design.now }
     requires nets { (flat : FlatModel) → IsFlatOf design.now flat → AreOpenNets design.now flat nets.now }
@@ -52,7 +50,7 @@ fn cause_of<A: Allocator + Copy>(
     ensures cause { IfOk result (λ fault. IsFinishRefusal design.now fault) }
     ensures refused { IfErr result (λ fault. IsFinishRefusal design.now fault) }
 {
-    let flat = clean_flat(alloc, library, design)?;
+    let flat = clean_flat(alloc, design)?;
     let unreachable = first_unreachable(alloc, grid, design, &flat, nets)?;
     if let Some((net, piece)) = unreachable {
         return Ok(FinishFault::Unreachable(net, piece));
@@ -64,20 +62,18 @@ fn cause_of<A: Allocator + Copy>(
 /// The same cause; that memory ran out where it is sought is one too.
 pub(crate) fn why_unfinished<A: Allocator + Copy>(
     alloc: A,
-    library: &Library<'_, A>,
     design: &Design<'_, A>,
     grid: &Grid<'_, '_, A>,
     nets: &[OpenNet<A>],
     left: &[u32],
 ) -> FinishFault<A>
-    requires library { library.now ≡ design.now.library }
     requires of_design { grid.now.design ≡ design.now }
     requires fits { ¬ IsGridBeyond GREATEST_GRID design.now }
     requires nets { (flat : FlatModel) → IsFlatOf design.now flat → AreOpenNets design.now flat nets.now }
     requires left { ArePlacesIn (length nets.now) left.now }
     ensures { IsFinishRefusal design.now result }
 {
-    match cause_of(alloc, library, design, grid, nets, left) {
+    match cause_of(alloc, design, grid, nets, left) {
         Ok(fault) => fault,
         Err(fault) => fault,
     }

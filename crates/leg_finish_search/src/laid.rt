@@ -1,6 +1,6 @@
 //! A net that was laid.
 
-ghost use Rattle.std.specs.Prelude.{◌≡◌, ◌<◌, [], All, length, IfOk, OnOk};
+ghost use Rattle.std.specs.Prelude.{◌≡◌, ◌<◌, [], All, IfOk, OnOk};
 ghost use Rattle.leg_finish_search.specs.Slots.{AreSlots, AreSlotLists};
 ghost use Rattle.leg_finish_search.specs.Steps.NetWalks.{IsLaidIn};
 

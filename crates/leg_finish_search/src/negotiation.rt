@@ -1,6 +1,6 @@
 //! Routing many nets together.
 
-ghost use Rattle.std.specs.Prelude.{◌≡◌, ◌<◌, ◌^◌, All, AllPairs, length, replicate, map, IfOk, ℕ};
+ghost use Rattle.std.specs.Prelude.{◌≡◌, ◌<◌, ◌^◌, All, AllPairs, length, map, IfOk, ℕ};
 ghost use Rattle.leg_finish_search.specs.Slots.{AreSlotLists};
 ghost use Rattle.leg_finish_search.specs.Steps.NetWalks.{IsLaidIn};
 

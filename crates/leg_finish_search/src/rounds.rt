@@ -1,6 +1,6 @@
 //! Rounds of routing: nets that are in conflict are taken up and laid again.
 
-ghost use Rattle.std.specs.Prelude.{◌≡◌, ◌<◌, All, length, slice_set, IfOk, OnOk};
+ghost use Rattle.std.specs.Prelude.{◌≡◌, ◌<◌, All, length, slice_set, OnOk};
 ghost use Rattle.leg_finish_search.specs.Steps.NetWalks.{IsLaidIn};
 
 use crate::board::Board;

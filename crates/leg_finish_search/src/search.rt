@@ -118,7 +118,8 @@ fn spread<A: Allocator + Copy, L: Lattice>(
 ) -> Result<(), AllocError>
     requires size { table.old ≡ L.size_of ground.now.lattice.now }
     requires slot { from.slot < L.size_of ground.now.lattice.now }
-    requires point { IsPointOf (L.levels_of ground.now.lattice.now) (length (L.ys_of ground.now.lattice.now)) (length (L.xs_of ground.now.lattice.now)) from.point }
+    requires point { IsPointOf (L.levels_of ground.now.lattice.now) (length (L.ys_of ground.now.lattice.now))
+        (length (L.xs_of ground.now.lattice.now)) from.point }
     ensures { table.new ≡ table.old }
 {
     match ground.lattice.direction(from.point.level) {
@@ -137,7 +138,8 @@ fn spread_along_x<A: Allocator + Copy, L: Lattice>(
 ) -> Result<(), AllocError>
     requires size { table.old ≡ L.size_of ground.now.lattice.now }
     requires slot { from.slot < L.size_of ground.now.lattice.now }
-    requires point { IsPointOf (L.levels_of ground.now.lattice.now) (length (L.ys_of ground.now.lattice.now)) (length (L.xs_of ground.now.lattice.now)) from.point }
+    requires point { IsPointOf (L.levels_of ground.now.lattice.now) (length (L.ys_of ground.now.lattice.now))
+        (length (L.xs_of ground.now.lattice.now)) from.point }
     ensures { table.new ≡ table.old }
 {
     let point = from.point;
@@ -167,7 +169,8 @@ fn spread_along_y<A: Allocator + Copy, L: Lattice>(
 ) -> Result<(), AllocError>
     requires size { table.old ≡ L.size_of ground.now.lattice.now }
     requires slot { from.slot < L.size_of ground.now.lattice.now }
-    requires point { IsPointOf (L.levels_of ground.now.lattice.now) (length (L.ys_of ground.now.lattice.now)) (length (L.xs_of ground.now.lattice.now)) from.point }
+    requires point { IsPointOf (L.levels_of ground.now.lattice.now) (length (L.ys_of ground.now.lattice.now))
+        (length (L.xs_of ground.now.lattice.now)) from.point }
     ensures { table.new ≡ table.old }
 {
     let point = from.point;
@@ -209,7 +212,8 @@ fn spread_through<A: Allocator + Copy, L: Lattice>(
 ) -> Result<(), AllocError>
     requires size { table.old ≡ L.size_of ground.now.lattice.now }
     requires slot { from.slot < L.size_of ground.now.lattice.now }
-    requires point { IsPointOf (L.levels_of ground.now.lattice.now) (length (L.ys_of ground.now.lattice.now)) (length (L.xs_of ground.now.lattice.now)) from.point }
+    requires point { IsPointOf (L.levels_of ground.now.lattice.now) (length (L.ys_of ground.now.lattice.now))
+        (length (L.xs_of ground.now.lattice.now)) from.point }
     ensures { table.new ≡ table.old }
 {
     let point = from.point;
@@ -252,8 +256,10 @@ fn follow<A: Allocator + Copy, L: Lattice>(
 ) -> Result<(), AllocError>
     requires size { table.old ≡ L.size_of ground.now.lattice.now }
     requires slot { from.slot < L.size_of ground.now.lattice.now }
-    requires from { IsPointOf (L.levels_of ground.now.lattice.now) (length (L.ys_of ground.now.lattice.now)) (length (L.xs_of ground.now.lattice.now)) from.point }
-    requires to { IsPointOf (L.levels_of ground.now.lattice.now) (length (L.ys_of ground.now.lattice.now)) (length (L.xs_of ground.now.lattice.now)) step.to }
+    requires from { IsPointOf (L.levels_of ground.now.lattice.now) (length (L.ys_of ground.now.lattice.now))
+        (length (L.xs_of ground.now.lattice.now)) from.point }
+    requires to { IsPointOf (L.levels_of ground.now.lattice.now) (length (L.ys_of ground.now.lattice.now))
+        (length (L.xs_of ground.now.lattice.now)) step.to }
     ensures { table.new ≡ table.old }
 {
     let slot = ground.lattice.slot(step.to);

@@ -9,6 +9,7 @@ use crate::element::Element;
 use crate::ground::Ground;
 use crate::lattice::{GridPoint, Lattice};
 use crate::table::Table;
+use leg_geom::places_within;
 use leg_lib_records::Items;
 use std::alloc::{AllocError, Allocator};
 
@@ -101,15 +102,6 @@ fn note_near<A: Allocator + Copy, L: Lattice>(
         }
     }
     Ok(())
-}
-
-/// The places of the values from low to high, which increase: the first one, and the one past the last.
-fn places_within(values: &[i64], low: i64, high: i64) -> (usize, usize)
-    ensures { result.1 ≤ length values.now }
-{
-    let first = values.partition_point(|z| *z < low);
-    let end = values.partition_point(|z| *z <= high);
-    (first, end)
 }
 
 /// Adds those that clash in this way with an element of the slot.

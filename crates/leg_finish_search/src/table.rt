@@ -1,6 +1,6 @@
 //! What is kept of all slots while nets are routed.
 
-ghost use Rattle.std.specs.Prelude.{◌≡◌, ◌<◌, ◌^◌, IfOk, IfSome, OnOk};
+ghost use Rattle.std.specs.Prelude.{◌≡◌, ◌<◌, IfOk, IfSome};
 ghost use Rattle.leg_finish_search.specs.Slots.{AreSlots};
 
 use crate::congestion::Congestion;

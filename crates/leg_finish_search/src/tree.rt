@@ -1,7 +1,7 @@
 //! What is joined of a net on its turn.
 
 ghost use Rattle.std.specs.Prelude.{◌≡◌, ◌<◌, ◌++◌, ◌∷◌, [], length, IfOk, IfSome, OnOk, map};
-ghost use Rattle.leg_finish_search.specs.Slots.{AreSlots, AreSlotLists};
+ghost use Rattle.leg_finish_search.specs.Slots.{AreSlotLists};
 ghost use Rattle.leg_finish_search.specs.Steps.Tree.{IsTreeOf};
 
 use crate::ground::Ground;

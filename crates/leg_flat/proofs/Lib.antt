@@ -41,7 +41,6 @@ mod LoneTerminals
 mod Counts
 mod ShapeCounts
 mod FlatWithin
-mod Elements
 -- What the proofs of other crates cite
 pub mod OneFlat
 pub mod LastPiece

@@ -8,7 +8,8 @@ use Rattle.leg_design_records.specs.declared.records.Terminal.TheVariants.{Comp}
 use Rattle.leg_design_records.specs.Records.{DesignModel}
 use Rattle.leg_rules.specs.declared.owner.Owner.{Owner}
 use Rattle.leg_rules.specs.declared.owner.Owner.TheVariants.{Net}
-use Rattle.leg_rules.specs.Metal.Owner.{master_pin, owner_by_use, lone_owner, owner_of, piece_of}
+use Rattle.leg_rules.specs.Metal.Owner.{owner_by_use, lone_owner, owner_of, piece_of}
+use Rattle.leg_design_records.specs.Names.{master_pin}
 use Rattle.leg_flat.specs.Steps.Places.{NetsModel, IsPlaceOf, AreNetsOf, place_in}
 use Rattle.leg_rules.specs.Metal.Metal.{of_terminal}
 use Rattle.leg_flat.specs.Steps.AddedMetal.{master_of}

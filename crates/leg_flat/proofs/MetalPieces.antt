@@ -13,7 +13,8 @@ use Rattle.leg_design_records.specs.WellFormedNets.{HasNets}
 use Rattle.leg_rules.specs.declared.owner.Owner.TheVariants.{Net}
 use Rattle.leg_rules.specs.declared.piece.Piece.TheVariants.{Term, Wire}
 use Rattle.leg_rules.specs.Metal.Nets.{terminals_of, wires_of}
-use Rattle.leg_rules.specs.Metal.Owner.{net_of, owner_by_use, master_pin, lone_owner, owner_of, piece_of}
+use Rattle.leg_rules.specs.Metal.Owner.{net_of, owner_by_use, lone_owner, owner_of, piece_of}
+use Rattle.leg_design_records.specs.Names.{master_pin}
 use Rattle.leg_rules.specs.Metal.Metal.{OnLayer, Metal, of_terminal, wire_outlines, metal_of}
 use Rattle.leg_rules.specs.Metal.Pieces.{IsOfTerminal, terminal_component, HasItsPiece}
 use Rattle.leg_flat.proofs.AllNets.{net_in}

@@ -55,7 +55,10 @@ fn add_obstructions<A: Allocator + Copy>(
 ) -> Result<(), AllocError>
     requires at { IsPosition place.now.at }
     requires within { IsSoundMaster master.now }
-    ensures { OnOk result (AddsMetal (belonging (record { owner = Obs component; component = Some component; piece = None }) (drawn place.now master.now.size master.now.obstructions)) shapes.old.items shapes.new.items) }
+    ensures { OnOk result (AddsMetal
+        (belonging (record { owner = Obs component; component = Some component; piece = None })
+        (drawn place.now master.now.size master.now.obstructions))
+        shapes.old.items shapes.new.items) }
 {
     let (width, height) = (master.size.width(), master.size.height());
     let belongs = Belongs {
@@ -95,7 +98,9 @@ fn add_component<A: Allocator + Copy>(
     requires sound { IsSound design.now.library }
     requires there { slice_get design.now.components number ≡ Some component.now }
     requires at { IsPlaceWithin component.now.place }
-    ensures { OnOk result (AddsMetal (component_metal design.now number component.now.place (slice_get design.now.library.masters component.now.master)) shapes.old.items shapes.new.items) }
+    ensures { OnOk result (AddsMetal
+        (component_metal design.now number component.now.place (slice_get design.now.library.masters component.now.master))
+        shapes.old.items shapes.new.items) }
 {
     let master = master_numbered(design, component.master);
     let (Some(place), Some(master)) = (&component.place, master) else {
@@ -175,7 +180,8 @@ fn add_rects<A: Allocator + Copy>(
     belongs: &Belongs,
 ) -> Result<(), AllocError>
     requires { All IsArea rects.now }
-    ensures { OnOk result (AddsMetal (belonging belongs.now (map (λ rect. record { layer = layer; outline = Rectangle rect }) rects.now)) shapes.old.items shapes.new.items) }
+    ensures { OnOk result (AddsMetal (belonging belongs.now (map (λ rect. record { layer = layer; outline = Rectangle rect }) rects.now))
+        shapes.old.items shapes.new.items) }
 {
     for rect in rects {
         add_shape(shapes, layer, *rect, belongs)?;
@@ -190,7 +196,8 @@ fn add_blockage<A: Allocator + Copy>(
     blockage: &Blockage<A>,
 ) -> Result<(), AllocError>
     requires { All IsArea (blockage_said blockage.now).rects }
-    ensures { OnOk result (AddsMetal (blockage_metal number (blockage_said blockage.now).layer (blockage_said blockage.now).rects) shapes.old.items shapes.new.items) }
+    ensures { OnOk result (AddsMetal (blockage_metal number (blockage_said blockage.now).layer (blockage_said blockage.now).rects)
+        shapes.old.items shapes.new.items) }
 {
     let belongs = Belongs {
         owner: Owner::Blocking(number),

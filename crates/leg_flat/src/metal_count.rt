@@ -1,15 +1,13 @@
 //! Whether a design has more shapes than a flat may have.
 
-ghost use Rattle.std.specs.Prelude.{◌≡◌, ◌↔◌, ◌<◌, ℕ, length, IsTrue, slice_get};
+ghost use Rattle.std.specs.Prelude.{◌≡◌, ℕ, length, slice_get};
 ghost use Rattle.leg_geom.specs.declared.place.Place.{Place};
 ghost use Rattle.leg_lib_records.specs.Measure.{ExtentModel};
 ghost use Rattle.leg_design_records.specs.Records.{DesignModel, blockage_said};
-ghost use Rattle.leg_design_records.specs.declared.limits.TheConstants.{PART_LIMIT};
 ghost use Rattle.leg_rules.specs.Metal.Metal.{wire_outlines, wires_metal, port_outlines, ports_outlines, pins_metal, component_metal, components_metal, design_pins_metal, blockage_metal, blockages_metal, nets_metal, specials_metal, metal_of};
 ghost use Rattle.leg_flat.specs.Steps.ShapeCount.{counted};
 
 use crate::metal::master_numbered;
-use crate::metal_wires::via_numbered;
 use leg_design_records::{Blockage, Component, Design, Net, PART_LIMIT, Port, Wire};
 use leg_lib_records::MasterPin;
 use std::alloc::Allocator;
@@ -23,7 +21,8 @@ fn counted(before: u64, more: usize) -> u64
 
 /// The shapes of pins of a macro, more than before.
 fn count_pins<A: Allocator>(before: u64, pins: &[MasterPin<'_, A>]) -> u64
-    ensures { (design : DesignModel) (c : ℕ) (place : Place) (size : ExtentModel) → result ≡ counted before (length (pins_metal design c place size 0 pins.now)) }
+    ensures { (design : DesignModel) (c : ℕ) (place : Place) (size : ExtentModel)
+        → result ≡ counted before (length (pins_metal design c place size 0 pins.now)) }
 {
     let mut count = counted(before, 0);
     for pin in pins {
@@ -38,7 +37,8 @@ fn count_component<A: Allocator + Copy>(
     design: &Design<'_, A>,
     component: &Component<'_>,
 ) -> u64
-    ensures { (c : ℕ) → result ≡ counted before (length (component_metal design.now c component.now.place (slice_get design.now.library.masters component.now.master))) }
+    ensures { (c : ℕ) → result ≡ counted before
+        (length (component_metal design.now c component.now.place (slice_get design.now.library.masters component.now.master))) }
 {
     let master = master_numbered(design, component.master);
     let (Some(_place), Some(master)) = (&component.place, master) else {
@@ -118,7 +118,7 @@ pub(crate) fn wire_shapes<A: Allocator + Copy>(design: &Design<'_, A>, wire: &Wi
 {
     match wire {
         Wire::Segment { .. } | Wire::Patch { .. } => 1,
-        Wire::ViaAt { via, .. } => match via_numbered(design, *via) {
+        Wire::ViaAt { via, .. } => match design.via_numbered(*via) {
             Some(via) => via.shapes.as_slice().len(),
             None => 0,
         },

@@ -105,7 +105,8 @@ pub(crate) fn add_shape<A: Allocator + Copy>(
     rect: Rect,
     belongs: &Belongs,
 ) -> Result<(), AllocError>
-    ensures { OnOk result (shapes.new.items ≡ shapes.old.items ++ record { layer = layer; rect = rect; owner = belongs.now.owner; component = belongs.now.component; piece = belongs.now.piece } ∷ []) }
+    ensures { OnOk result (shapes.new.items ≡ shapes.old.items
+        ++ record { layer = layer; rect = rect; owner = belongs.now.owner; component = belongs.now.component; piece = belongs.now.piece } ∷ []) }
 {
     shapes.push(Shape {
         layer,
@@ -130,7 +131,8 @@ pub(crate) fn add_drawn<A: Allocator + Copy>(
     requires width { IsNumber width }
     requires height { IsNumber height }
     requires within { AreDrawnWithin box_shapes.now }
-    ensures { OnOk result (AddsMetal (belonging belongs.now (drawn place.now (record { width = width; height = height }) box_shapes.now)) shapes.old.items shapes.new.items) }
+    ensures { OnOk result (AddsMetal (belonging belongs.now (drawn place.now (record { width = width; height = height }) box_shapes.now))
+        shapes.old.items shapes.new.items) }
 {
     for shape in box_shapes {
         let rect = drawn_rect(place, width, height, &shape.rect);
@@ -148,7 +150,9 @@ pub(crate) fn add_shifted<A: Allocator + Copy>(
 ) -> Result<(), AllocError>
     requires at { IsPosition at.now }
     requires within { AreDrawnWithin point_shapes.now }
-    ensures { OnOk result (AddsMetal (belonging belongs.now (map (λ s. record { layer = s.layer; outline = Shifted at.now s.rect }) point_shapes.now)) shapes.old.items shapes.new.items) }
+    ensures { OnOk result (AddsMetal
+        (belonging belongs.now (map (λ s. record { layer = s.layer; outline = Shifted at.now s.rect }) point_shapes.now))
+        shapes.old.items shapes.new.items) }
 {
     for shape in point_shapes {
         let rect = shifted_rect(at, &shape.rect);

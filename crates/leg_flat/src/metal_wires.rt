@@ -1,8 +1,7 @@
 //! The metal of the wires of a design.
 
-ghost use Rattle.std.specs.Prelude.{◌≡◌, ◌+◌, ◌++◌, ◌<◌, ◌^◌, length, All, OnOk, option_map, slice_get};
+ghost use Rattle.std.specs.Prelude.{◌≡◌, ◌+◌, ◌<◌, ◌^◌, length, All, OnOk};
 ghost use Rattle.leg_design_records.specs.declared.records.Wire.TheVariants.{ViaAt};
-ghost use Rattle.leg_design_records.specs.WellFormed.{IsWellFormed};
 ghost use Rattle.leg_design_records.specs.WellFormedParts.{IsPosition};
 ghost use Rattle.leg_lib_records.specs.Sound.{IsSound};
 ghost use Rattle.leg_rules.specs.Metal.Metal.{belonging, wire_outlines, wires_metal, nets_metal, specials_metal};
@@ -15,26 +14,8 @@ use crate::nets::Nets;
 use crate::outline::{line_rect, shifted_rect};
 use leg_design_records::{Design, Wire};
 use leg_geom::Point;
-use leg_lib_records::Via;
 use leg_rules::{Owner, Shape};
 use std::alloc::{AllocError, Allocator};
-
-/// The via of this number: those of the library count first.
-pub(crate) fn via_numbered<'d, 'a, A: Allocator + Copy>(
-    design: &'d Design<'a, A>,
-    number: usize,
-) -> Option<&'d Via<'a, A>>
-    ensures is { option_map (λ via. via.now) result ≡ slice_get (design.now.library.vias ++ design.now.vias) number }
-    ensures proper { IsWellFormed design.now }
-{
-    let of_library = design.library().vias();
-    let of_design = design.vias();
-    if number < of_library.len() {
-        of_library.get(number)
-    } else {
-        of_design.get(number - of_library.len())
-    }
-}
 
 /// Adds the shapes of the via of this number, from a point.
 fn add_via<A: Allocator + Copy>(
@@ -48,7 +29,7 @@ fn add_via<A: Allocator + Copy>(
     requires at { IsPosition at.now }
     ensures { OnOk result (AddsMetal (belonging belongs.now (wire_outlines design.now (ViaAt number at.now))) shapes.old.items shapes.new.items) }
 {
-    match via_numbered(design, number) {
+    match design.via_numbered(number) {
         Some(via) => add_shifted(shapes, at, via.shapes.as_slice(), belongs),
         None => Ok(()),
     }

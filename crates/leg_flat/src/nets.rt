@@ -3,7 +3,7 @@
 ghost use Rattle.std.specs.Prelude.{◌≡◌, ◌≢◌, ℕ, ◌<◌, ◌^◌, suc, ◌+◌, ◌++◌, ◌∷◌, [], length, map, Some, option_map, All, AllPairs, IfOk, OnOk, slice_get};
 ghost use Rattle.std.specs.List.{range_with_len};
 ghost use Rattle.leg_design_records.specs.declared.records.Terminal.{Terminal};
-ghost use Rattle.leg_rules.specs.declared.piece.Piece.TheVariants.{Term, Wire};
+ghost use Rattle.leg_rules.specs.declared.piece.Piece.TheVariants.{Wire};
 ghost use Rattle.leg_rules.specs.Metal.Nets.{entry_terminals, entry_wires, terminals_of, pieces_of};
 ghost use Rattle.leg_flat.specs.Limits.{ArePieces};
 ghost use Rattle.leg_flat.specs.Steps.Places.{AreSpecialNumbers, AreNetsOf, place_in};

@@ -9,7 +9,7 @@ ghost use Rattle.leg_rules.specs.Metal.Outline.{IsAlong, IsAcross, HasPointOf};
 ghost use Rattle.leg_rules.specs.Metal.Outline.Outline.{Drawn, Line, Shifted};
 ghost use Rattle.leg_flat.specs.Steps.Bounds.{IsMetalReach, IsWidthWithin, IsLineWithin, IsDrawnWithin};
 
-use leg_geom::{Orient, Place, Point, Rect};
+use leg_geom::{Place, Point, Rect};
 
 /// The lowest and the highest coordinate along a line between two different ones, with how far it reaches past each.
 fn line_ends(from: i64, to: i64, ext_from: i64, ext_to: i64) -> (i64, i64)
@@ -63,12 +63,7 @@ pub(crate) fn shifted_rect(at: &Point, rect: &Rect) -> Rect
     ensures points { (p : PointModel) → HasPoint result p ↔ HasPointOf (Shifted at.now rect.now) p }
     ensures proper { IsRect result }
 {
-    // Orientation N leaves a rectangle as it is, whatever the size of its box.
-    let place = Place {
-        at: *at,
-        orient: Orient::N,
-    };
-    place.rect(0, 0, rect)
+    rect.moved(at)
 }
 
 /// Where a rectangle lies that is drawn in a box of this size, once the box is at its place.

@@ -1,6 +1,7 @@
--- Intervals
+-- Intervals, and numbers in a list
 mod Intervals
 mod Axes
+mod RisingValues
 -- Rectangles by their points
 mod Corners
 mod Touching

@@ -3,6 +3,7 @@
 
 pub mod laws;
 mod limits;
+mod line;
 mod orient;
 mod place;
 mod point;
@@ -10,6 +11,7 @@ mod rect;
 mod span;
 
 pub use limits::COORDINATE_LIMIT;
+pub use line::places_within;
 pub use orient::Orient;
 pub use place::Place;
 pub use point::Point;

@@ -3,9 +3,12 @@
 ghost use Rattle.std.specs.Prelude.{◌≡◌, ◌≢◌, ◌↔◌, ◌≤◌, ◌*◌, ℕ, pos, IsTrue, SomeIff};
 ghost use Rattle.leg_geom.specs.Plane.{IsRect, ShareSquare, SharePoint, ShareTwoPoints, HasAllPoints, IsCentre, centre};
 ghost use Rattle.leg_geom.specs.Line.{between};
+ghost use Rattle.leg_geom.specs.Orientation.{moved, StaysWithin, IsImage};
 ghost use Rattle.leg_geom.specs.Gap.{x_gap, y_gap, IsXGap, IsYGap, IsSquareGap};
 
 use crate::limits::COORDINATE_LIMIT;
+use crate::orient::Orient;
+use crate::place::Place;
 use crate::point::Point;
 use crate::span::Span;
 use std::marker::Model;
@@ -62,6 +65,28 @@ impl Rect {
         let lower_left = Point::known(self.x1(), self.y1());
         let upper_right = Point::known(self.x2(), self.y2());
         (lower_left, upper_right)
+    }
+
+    /// Whether both rectangles are the same.
+    #[tactic(auto, using(crate::proofs::Points::sides_same))]
+    pub fn is(&self, other: &Rect) -> bool
+        ensures { IsTrue result ↔ self.now ≡ other.now }
+    {
+        *self == *other
+    }
+
+    /// The rectangle moved by the coordinates of a point: where it lies if it is given from that point.
+    pub fn moved(&self, by: &Point) -> Rect
+        requires { StaysWithin (moved by.now) self.now }
+        ensures image { IsImage (moved by.now) self.now result }
+        ensures proper { IsRect result }
+    {
+        // Orientation N leaves a rectangle as it is, whatever the size of its box.
+        let place = Place {
+            at: *by,
+            orient: Orient::N,
+        };
+        place.rect(0, 0, self)
     }
 
     /// The x coordinate of the left edge.

@@ -1,7 +1,8 @@
 -- Facts that hold or don't, and the least number with a property.
-use Rattle.std.proofs.Common.{◌≡◌, ◌⊎◌, ℕ, zero, suc, ◌<◌, ℤ, Bool, true, false, List, length, get_or, Option, None, Some, slice_get, Contains, IsTrue, inl, inr, refl, arith}
+use Rattle.std.proofs.Common.{◌≡◌, ◌⊎◌, ℕ, zero, suc, ◌<◌, ℤ, Bool, true, false, List, [], ◌∷◌, length, get_or, Option, None, Some, slice_get, All, Contains, IsTrue, inl, inr, refl, arith}
 use Rattle.std.proofs.lemmas.Bool.{cases_lt, cases_eq, false≢true}
 use Rattle.std.proofs.lemmas.Int.{ints, by_lt_z}
+use Rattle.std.proofs.lemmas.List.Elements.{All-nil, All-cons, All-head, All-tail}
 use Rattle.std.proofs.lemmas.Option.{none-some}
 
 -- a fact holds, or it doesn't
@@ -53,6 +54,13 @@ module _ {X : Type 0} where
   -- something stands at a number of a list, or nothing does
   pub there_or_not : (xs : List X) (k : ℕ) → HoldsOrNot ((x : X) × (slice_get xs k ≡ Some x))
   there_or_not xs k = some_or_not (slice_get xs k)
+
+-- all elements of a list have a property or not
+pub all_or_not : {X : Type 0} (P : X → Type 0) → ((x : X) → HoldsOrNot (P x)) → (xs : List X) → HoldsOrNot (All P xs)
+all_or_not P each [] = inl (All-nil P)
+all_or_not P each (x ∷ xs) =
+    by_other (λ both. All-cons P x xs both.0 both.1) (λ all. (All-head P x xs all, All-tail P x xs all))
+    (both_or_not (each x) (all_or_not P each xs))
 
 -- the least number below the end with a property
 pub record IsLeastBelow (P : ℕ → Type 0) (end k : ℕ) : Type 0 where

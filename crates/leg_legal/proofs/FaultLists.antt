@@ -4,12 +4,12 @@ use Rattle.std.proofs.lemmas.Bool.{cases_eq}
 use Rattle.std.proofs.lemmas.Option.{slice_get_within}
 use Rattle.leg_design_records.specs.Records.{DesignModel}
 use Rattle.leg_design_records.specs.declared.fault.Fault.{Fault}
-use Rattle.leg_design_records.specs.declared.fault.Fault.TheVariants.{Overlap, Short}
+use Rattle.leg_design_records.specs.declared.fault.Fault.TheVariants.{Overlap}
 use Rattle.leg_design_records.specs.Violation.{kind_number, numbers_of, ComesBefore, IsListOf}
 use Rattle.leg_design_records.proofs.FaultNumbers.{lower_kind_first}
 use Rattle.leg_rules.specs.Placement.Violations.{IsPlacementViolation}
 use Rattle.leg_place.specs.Steps.ComponentFault.{fault_of}
-use Rattle.leg_place.proofs.PlaceFaults.{kind_below, component_below, overlap_there}
+use Rattle.leg_place.proofs.PlaceFaults.{placement_end, kind_below, component_below, overlap_there}
 use Rattle.leg_place.proofs.ComponentFaults.{ComponentKind, number_of_kind, overlap_kind, of_component, is_of_component, is_overlap, component_or_overlap, kind_or_none}
 use Rattle.leg_legal.proofs.Decisions.{HoldsOrNot}
 use Rattle.leg_legal.proofs.Listings.{HasListing, IsOfKind, listing_of_none, listing_of_one, listing_below, listing_same}
@@ -125,16 +125,13 @@ module _ (design : DesignModel) (P : Fault → Type 0) (holds : (fault : Fault) 
         ]
       ]
 
-  -- the kinds of placement come before that of shorts
-  abbrev end : ℕ
-  end = kind_number (Short 0 0)
-
   all_kinds : HasListing ComesBefore P
   all_kinds =
-      listing_same ComesBefore (IsOfKind IsOfNumber end) P
+      listing_same ComesBefore (IsOfKind IsOfNumber placement_end) P
       (λ fault k. k.holds.has)
       (λ fault p. record { kind = kind_number fault; below = kind_below design fault (holds fault p); holds = record { is = refl; has = p } })
-      (listing_below ComesBefore IsOfNumber of_each_kind (λ j k v w below s t. lower_kind_first v w (let s_is = s.is in let t_is = t.is in omega arith)) end)
+      (listing_below ComesBefore IsOfNumber of_each_kind
+      (λ j k v w below s t. lower_kind_first v w (let s_is = s.is in let t_is = t.is in omega arith)) placement_end)
 
   pub list_of : (faults : List Fault) × IsListOf P faults
   list_of = let found = all_kinds in (found.0, record { increasing = found.1.rising; each = found.1.each; all = found.1.all })

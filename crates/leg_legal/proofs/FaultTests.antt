@@ -1,4 +1,4 @@
--- Whether a violation of placement holds, and whether it concerns only components that stay.
+-- Whether a violation of placement holds, and whether it names only components that stay.
 use Rattle.leg_design_records.specs.Movable.{IsMovable}
 use Rattle.std.proofs.Common.{◌≡◌, ℕ, Option, None, Some, slice_get, Contains, inl, inr, refl, sym, ◌∙◌, arith}
 use Rattle.std.proofs.lemmas.Option.{same_Some, none-some}
@@ -8,16 +8,17 @@ use Rattle.leg_lib_records.specs.Records.{MasterModel}
 use Rattle.leg_design_records.specs.Records.{DesignModel, placement_rects}
 use Rattle.leg_design_records.specs.declared.records.Component.{Component}
 use Rattle.leg_design_records.specs.declared.fault.Fault.{Fault}
-use Rattle.leg_design_records.specs.declared.fault.Fault.TheVariants.{Unplaced, Outside, OffSite, Overlap, Blocked, Short, TooNear, OpenNet}
+use Rattle.leg_design_records.specs.declared.fault.Fault.TheVariants.{Unplaced, Outside, OffSite, Overlap, Blocked}
+use Rattle.leg_design_records.specs.Violation.{components_of}
 use Rattle.leg_rules.specs.Placement.Box.{box_of, HasBox}
 use Rattle.leg_rules.specs.Placement.Violations.{IsUnplaced, IsOutside, DoOverlap, IsBlocked, IsPlacementViolation}
 use Rattle.leg_rules.specs.Placement.Violations.IsPlacementViolation.{unplaced, outside, off_site, overlap, blocked}
 use Rattle.leg_rules.specs.Placement.Sites.{IsOnRow, IsOffSite}
 use Rattle.leg_place.proofs.PlaceFaults.{kind_below, unplaced_there, outside_there, off_site_there, overlap_there, blocked_there}
-use Rattle.leg_rules.specs.Legalise.Refusals.{ConcernsStaying, IsStayingViolation}
+use Rattle.leg_rules.specs.Legalise.Refusals.{IsStayingViolation}
 use Rattle.leg_legal.proofs.OnRow.{HasSoundRows}
 use Rattle.leg_design_records.proofs.MovableOrNot.{movable_or_not}
-use Rattle.leg_legal.proofs.Decisions.{HoldsOrNot, by_other, both_or_not, never_or_not, less_or_not, some_or_not, there_or_not}
+use Rattle.leg_legal.proofs.Decisions.{HoldsOrNot, by_other, both_or_not, never_or_not, less_or_not, some_or_not, there_or_not, all_or_not}
 use Rattle.leg_legal.proofs.Squares.{share_or_not, missing_or_all}
 use Rattle.leg_legal.proofs.RowTests.{some_element, on_row_or_not}
 
@@ -171,25 +172,11 @@ module _ (design : DesignModel) where
     holds_or_not (OffSite c) = by_other (λ h. off_site h) (off_site_there design c) (off_site_or_not c)
     holds_or_not (Overlap a b) = by_other (λ h. overlap h) (overlap_there design a b) (overlap_or_not a b)
     holds_or_not (Blocked c) = by_other (λ h. blocked h) (blocked_there design c) (blocked_or_not c)
-    holds_or_not (Short a b) = inr (λ h. let below = kind_below design (Short a b) h in omega arith)
-    holds_or_not (TooNear a b) = inr (λ h. let below = kind_below design (TooNear a b) h in omega arith)
-    holds_or_not (OpenNet n k) = inr (λ h. let below = kind_below design (OpenNet n k) h in omega arith)
+    holds_or_not other = inr (λ h. let below = kind_below design other h in omega arith)
 
-    stays_or_not : (c : ℕ) → HoldsOrNot (IsMovable design c → ⊥)
-    stays_or_not c = never_or_not (movable_or_not design c)
-
-    -- it concerns components that stay or not
-    concerns_or_not : (fault : Fault) → HoldsOrNot (ConcernsStaying design fault)
-    concerns_or_not (Unplaced c) = stays_or_not c
-    concerns_or_not (Outside c) = stays_or_not c
-    concerns_or_not (OffSite c) = stays_or_not c
-    concerns_or_not (Overlap a b) = both_or_not (stays_or_not a) (stays_or_not b)
-    concerns_or_not (Blocked c) = stays_or_not c
-    concerns_or_not (Short a b) = inr (λ never. never)
-    concerns_or_not (TooNear a b) = inr (λ never. never)
-    concerns_or_not (OpenNet n k) = inr (λ never. never)
-
+    -- it holds and names only components that stay, or not
     pub of_staying_or_not : (fault : Fault) → HoldsOrNot (IsStayingViolation design fault)
     of_staying_or_not fault =
         by_other (λ both. record { holds = both.0; staying = both.1 }) (λ h. (h.holds, h.staying))
-        (both_or_not (holds_or_not fault) (concerns_or_not fault))
+        (both_or_not (holds_or_not fault)
+        (all_or_not (λ c. IsMovable design c → ⊥) (λ c. never_or_not (movable_or_not design c)) (components_of fault)))

@@ -1,7 +1,7 @@
 -- A design is legalised in one way or refused for one cause, and not both.
-use Rattle.std.proofs.Common.{◌≡◌, ◌≢◌, ℕ, ◌<◌, ℤ, pos, List, [], ◌∷◌, ◌++◌, length, get_or, Some, slice_get, Contains, inl, inr, refl, sym, ap, subst, ◌∙◌, arith}
+use Rattle.std.proofs.Common.{◌≡◌, ◌≢◌, ℕ, ◌<◌, ℤ, pos, List, [], ◌∷◌, ◌++◌, length, get_or, Some, slice_get, All, Contains, inl, inr, refl, sym, ap, subst, ◌∙◌, arith}
 use Rattle.std.proofs.lemmas.List.{same_lists}
-use Rattle.std.proofs.lemmas.List.Elements.{All-head, Contains-push_cases}
+use Rattle.std.proofs.lemmas.List.Elements.{All-head, All-tail, Contains-push_cases}
 use Rattle.std.proofs.lemmas.Option.{same_Some, get_or_from_slice_get}
 use Rattle.leg_lemmas.proofs.Places.{contains_at, there_is}
 use Rattle.leg_lemmas.proofs.Contents.{Contains-nil}
@@ -9,7 +9,7 @@ use Rattle.leg_geom.specs.Plane.{RectModel}
 use Rattle.leg_geom.specs.declared.place.Place.{Place}
 use Rattle.leg_design_records.specs.Records.{DesignModel}
 use Rattle.leg_design_records.specs.declared.fault.Fault.{Fault}
-use Rattle.leg_design_records.specs.Violation.{IsListOf}
+use Rattle.leg_design_records.specs.Violation.{components_of, IsListOf}
 use Rattle.leg_design_records.specs.declared.records.Component.{Component}
 use Rattle.leg_rules.specs.Placement.Box.{HasBox}
 use Rattle.leg_rules.specs.Placement.Violations.{IsPlacementViolation, IsLegallyPlaced}
@@ -25,7 +25,7 @@ use Rattle.leg_rules.specs.Legalise.Run.LegaliseRun.{none, one}
 use Rattle.leg_rules.specs.Legalise.SameButForPlaces.{IsSameButForPlaces}
 use Rattle.leg_rules.specs.Legalise.Moves.{total_of, greatest_of, AreMoves}
 use Rattle.leg_legal.specs.Refusals.{IsLegaliseRefusal}
-use Rattle.leg_rules.specs.Legalise.Refusals.{ConcernsStaying, IsStayingViolation, NoneStaying, HasRowFor, IsLeastUnsuited, AreSuited, IsStuck}
+use Rattle.leg_rules.specs.Legalise.Refusals.{IsStayingViolation, NoneStaying, HasRowFor, IsLeastUnsuited, AreSuited, IsStuck}
 use Rattle.leg_legal.proofs.RunSoFar.{AreMovable, IsSoFar, so_far, earlier_movable, last_fresh}
 use Rattle.leg_legal.proofs.TheOrder.{order_unique, order_movable}
 use Rattle.leg_legal.proofs.TheRun.{run_same}
@@ -82,14 +82,24 @@ module _ (before : DesignModel) (components : List Component)
   stands_still : (c : ℕ) (box : RectModel) → (IsMovable before c → ⊥) → HasBox before c box → HasBox others_moved c box
   stands_still c box still s = record { component = s.component; there = stays c still ∙ s.there; placed = s.placed }
 
-  holds_still : (v : Fault) → IsPlacementViolation before v → ConcernsStaying before v → IsPlacementViolation (record before { components = components }) v
-  holds_still v (unplaced {c = c} h) still = unplaced (record { component = h.component; there = stays c still ∙ h.there; unplaced = h.unplaced })
+  abbrev Stays : ℕ → Type 0
+  Stays c = IsMovable before c → ⊥
+
+  holds_still : (v : Fault) → IsPlacementViolation before v → All Stays (components_of v) → IsPlacementViolation (record before { components = components }) v
+  holds_still v (unplaced {c = c} h) still =
+      unplaced (record { component = h.component; there = stays c (All-head Stays c [] still) ∙ h.there; unplaced = h.unplaced })
   holds_still v (outside {c = c} h) still =
-      outside (record { box = h.box; stands = stands_still c h.box still h.stands; square = h.square; inside = h.inside; outside = h.outside })
+      outside (record {
+        box = h.box;
+        stands = stands_still c h.box (All-head Stays c [] still) h.stands;
+        square = h.square;
+        inside = h.inside;
+        outside = h.outside;
+      })
   holds_still v (off_site {c = c} h) still =
       off_site (record {
         component = h.component;
-        there = stays c still ∙ h.there;
+        there = stays c (All-head Stays c [] still) ∙ h.there;
         place = h.place;
         placed = h.placed;
         master = h.master;
@@ -103,11 +113,11 @@ module _ (before : DesignModel) (components : List Component)
         in_order = h.in_order;
         box_a = h.box_a;
         box_b = h.box_b;
-        stands_a = stands_still a h.box_a still.0 h.stands_a;
-        stands_b = stands_still b h.box_b still.1 h.stands_b;
+        stands_a = stands_still a h.box_a (All-head Stays a (b ∷ []) still) h.stands_a;
+        stands_b = stands_still b h.box_b (All-head Stays b [] (All-tail Stays a (b ∷ []) still)) h.stands_b;
         shared = h.shared;
       })
-  holds_still v (blocked h) still = absurd (still h.movable)
+  holds_still v (blocked {c = c} h) still = absurd (All-head Stays c [] still h.movable)
 
 -- so a design with such a violation is not legally placed by moving others
 never_legal : (before after : DesignModel) → IsSameButForPlaces before after → IsLegallyPlaced after → NoneStaying before

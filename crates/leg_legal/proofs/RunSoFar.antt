@@ -2,23 +2,23 @@
 use Rattle.std.proofs.Common.{◌≡◌, ◌≢◌, ℕ, List, [], ◌∷◌, ◌++◌, length, Some, slice_get, All, AllPairs, Contains, refl, sym, ap, ◌∙◌, inl, inr}
 use Rattle.std.proofs.lemmas.Bool.{cases_eq}
 use Rattle.std.proofs.lemmas.List.{length-set}
-use Rattle.std.proofs.lemmas.List.Elements.{Contains-push, Contains-push_cases, Contains-append_left, All-contains}
+use Rattle.std.proofs.lemmas.List.Elements.{Contains-push, Contains-push_cases, Contains-append_left, All-contains, All-weaker}
 use Rattle.std.proofs.lemmas.Option.{same_Some}
 use Rattle.leg_lemmas.proofs.Contents.{Contains-nil}
 use Rattle.leg_geom.specs.declared.place.Place.{Place}
 use Rattle.leg_design_records.specs.Records.{DesignModel}
-use Rattle.leg_design_records.specs.declared.fault.Fault.{Fault}
-use Rattle.leg_design_records.specs.declared.fault.Fault.TheVariants.{Unplaced, Outside, OffSite, Overlap, Blocked, Short, TooNear, OpenNet}
+use Rattle.leg_design_records.specs.Violation.{components_of}
 use Rattle.leg_design_records.specs.declared.records.Component.{Component}
 use Rattle.leg_design_records.specs.Movable.{IsMovable}
+use Rattle.leg_rules.specs.Legalise.Free.{IsSettled}
 use Rattle.leg_rules.specs.Legalise.Run.{placed_at, moved_to, LegaliseRun}
 use Rattle.leg_rules.specs.Legalise.Run.LegaliseRun.{none, one}
 use Rattle.leg_rules.specs.Legalise.SameButForPlaces.{IsPlacedAnew}
-use Rattle.leg_rules.specs.Legalise.Refusals.{ConcernsStaying, NoneStaying}
+use Rattle.leg_rules.specs.Legalise.Refusals.{NoneStaying}
 use Rattle.leg_legal.proofs.Elements.{pairs_before, pairs_with_last, all_before}
 use Rattle.leg_legal.proofs.OneMove.{here, elsewhere, movable_after, movable_before}
 use Rattle.leg_legal.proofs.OnRow.{HasSoundRows}
-use Rattle.leg_legal.proofs.SettledPlaces.{ConcernsSettled, NoneSettled, settled_more}
+use Rattle.leg_legal.proofs.SettledPlaces.{NoneSettled, settled_more}
 
 -- movable components, no two alike
 pub record AreMovable (design : DesignModel) (done : List ℕ) : Type 0 where
@@ -101,27 +101,21 @@ so_far before _ _ (one {done = done} {now = now} {c = c} {component = component}
     so_far_one before done now c component place (so_far before done now run (earlier_movable before done c are)) at
     (last_movable before done c are) (last_fresh before done c are)
 
--- what concerns only settled components where none has been taken concerns only components that stay
-staying_only : (design : DesignModel) (fault : Fault) → ConcernsSettled design [] fault → ConcernsStaying design fault
-staying_only design (Unplaced c) (inl stays) = stays
-staying_only design (Unplaced c) (inr has) = absurd (Contains-nil c has)
-staying_only design (Outside c) (inl stays) = stays
-staying_only design (Outside c) (inr has) = absurd (Contains-nil c has)
-staying_only design (OffSite c) (inl stays) = stays
-staying_only design (OffSite c) (inr has) = absurd (Contains-nil c has)
-staying_only design (Overlap a b) (inl stays_a, inl stays_b) = (stays_a, stays_b)
-staying_only design (Overlap a b) (inl stays_a, inr has) = absurd (Contains-nil b has)
-staying_only design (Overlap a b) (inr has, settled) = absurd (Contains-nil a has)
-staying_only design (Blocked c) (inl stays) = stays
-staying_only design (Blocked c) (inr has) = absurd (Contains-nil c has)
-staying_only design (Short a b) s = s
-staying_only design (TooNear a b) s = s
-staying_only design (OpenNet n k) s = s
+-- where none has been taken, what is settled stays
+settled_stays : (design : DesignModel) (c : ℕ) → IsSettled design [] c → IsMovable design c → ⊥
+settled_stays design c (inl stays) = stays
+settled_stays design c (inr has) = absurd (Contains-nil c has)
 
 pub none_settled : (before : DesignModel) (done : List ℕ) (now : DesignModel) → HasSoundRows before → NoneStaying before → LegaliseRun before done now
     → AreMovable before done → NoneSettled now done
 none_settled before done now sound staying none are =
-    record { none = λ fault holds settled. staying fault (record { holds = holds; staying = staying_only before fault settled }) }
+    record {
+      none = λ fault holds settled.
+          staying fault (record {
+            holds = holds;
+            staying = All-weaker (IsSettled before []) (λ c. IsMovable before c → ⊥) (settled_stays before) (components_of fault) settled;
+          });
+    }
 none_settled before _ _ sound staying (one {done = done} {now = now} {c = c} {component = component} {place = place} run at takes) are =
     let so : IsSoFar before done now = so_far before done now run (earlier_movable before done c are) in
     settled_more now (so.sound sound) done c component place at (so.movable c (last_movable before done c are))

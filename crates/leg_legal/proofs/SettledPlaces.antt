@@ -1,6 +1,7 @@
 -- What is settled breaks no rule among itself, and goes on so.
-use Rattle.std.proofs.Common.{◌≡◌, ℕ, List, [], ◌∷◌, ◌++◌, Some, slice_get, sym, ◌∙◌, inl, inr, arith}
+use Rattle.std.proofs.Common.{◌≡◌, ℕ, List, [], ◌∷◌, ◌++◌, Some, slice_get, All, sym, ◌∙◌, inl, inr, arith}
 use Rattle.std.proofs.lemmas.Bool.{cases_eq}
+use Rattle.std.proofs.lemmas.List.Elements.{All-nil, All-cons, All-head, All-tail}
 use Rattle.std.proofs.lemmas.Option.{same_Some, none-some}
 use Rattle.leg_lemmas.proofs.Places.{contains_at}
 use Rattle.leg_geom.specs.Plane.{RectModel, ShareSquare}
@@ -8,7 +9,8 @@ use Rattle.leg_geom.specs.declared.place.Place.{Place}
 use Rattle.leg_geom.proofs.Gaps.{ShareSquare-symmetric}
 use Rattle.leg_design_records.specs.Records.{DesignModel}
 use Rattle.leg_design_records.specs.declared.fault.Fault.{Fault}
-use Rattle.leg_design_records.specs.declared.fault.Fault.TheVariants.{Unplaced, Outside, OffSite, Overlap, Blocked, Short, TooNear, OpenNet}
+use Rattle.leg_design_records.specs.declared.fault.Fault.TheVariants.{Unplaced, Outside, OffSite, Overlap, Blocked}
+use Rattle.leg_design_records.specs.Violation.{components_of}
 use Rattle.leg_design_records.specs.declared.records.Component.{Component}
 use Rattle.leg_rules.specs.Placement.Box.{placed_box, HasBox}
 use Rattle.leg_rules.specs.Placement.Violations.{IsUnplaced, IsOutside, IsBlocked, IsPlacementViolation}
@@ -21,20 +23,9 @@ use Rattle.leg_rules.specs.Legalise.Run.{placed_at, moved_to}
 use Rattle.leg_legal.proofs.OneMove.{elsewhere, is_here, box_here, box_elsewhere, movable_before, settled_before, taken_before}
 use Rattle.leg_legal.proofs.OnRow.{HasSoundRows, stands_on_row}
 
--- a violation concerns only components that are settled
-abbrev pub ConcernsSettled : DesignModel → List ℕ → Fault → Type 0
-ConcernsSettled design done (Unplaced c) = IsSettled design done c
-ConcernsSettled design done (Outside c) = IsSettled design done c
-ConcernsSettled design done (OffSite c) = IsSettled design done c
-ConcernsSettled design done (Overlap a b) = IsSettled design done a × IsSettled design done b
-ConcernsSettled design done (Blocked c) = IsSettled design done c
-ConcernsSettled design done (Short a b) = ⊥
-ConcernsSettled design done (TooNear a b) = ⊥
-ConcernsSettled design done (OpenNet n k) = ⊥
-
--- no violation holds among them
+-- no violation of placement holds that names only settled components
 pub record NoneSettled (design : DesignModel) (done : List ℕ) : Type 0 where
-  pub none : (fault : Fault) → IsPlacementViolation design fault → ConcernsSettled design done fault → ⊥
+  pub none : (fault : Fault) → IsPlacementViolation design fault → All (IsSettled design done) (components_of fault) → ⊥
 
 -- one more component takes a free position
 module _ (now : DesignModel) (sound : HasSoundRows now) (done : List ℕ) (c : ℕ) (component : Component) (place : Place)
@@ -87,14 +78,21 @@ module _ (now : DesignModel) (sound : HasSoundRows now) (done : List ℕ) (c : �
       let is : h.box ≡ placed_box free.stands.master.size place = box_here now c component place at free.stands.master h.box is_master h.stands in
       free.clear.alone h.rect (inr h.blocks) (rw is at (ShareSquare-symmetric h.box h.rect h.shared))
 
-  none_after : (fault : Fault) → IsPlacementViolation after fault → ConcernsSettled after more fault → ⊥
+  -- another component that is settled was settled before
+  one_before : (d : ℕ) → (d ≡ c → ⊥) → All (IsSettled after more) (d ∷ []) → All (IsSettled now done) (d ∷ [])
+  one_before d apart settled =
+      All-cons (IsSettled now done) d []
+      (settled_before now c component place at movable done d apart (All-head (IsSettled after more) d [] settled))
+      (All-nil (IsSettled now done))
+
+  none_after : (fault : Fault) → IsPlacementViolation after fault → All (IsSettled after more) (components_of fault) → ⊥
   none_after v (unplaced {c = d} h) settled =
       elim (cases_eq d c) [
         | inl same ↦ placed_here (rw same at h)
         | inr apart ↦
             before.none (Unplaced d)
             (unplaced (record { component = h.component; there = sym (elsewhere now c component place at d apart) ∙ h.there; unplaced = h.unplaced }))
-            (settled_before now c component place at movable done d apart settled)
+            (one_before d apart settled)
       ]
   none_after v (outside {c = d} h) settled =
       elim (cases_eq d c) [
@@ -108,7 +106,7 @@ module _ (now : DesignModel) (sound : HasSoundRows now) (done : List ℕ) (c : �
               inside = h.inside;
               outside = h.outside;
             }))
-            (settled_before now c component place at movable done d apart settled)
+            (one_before d apart settled)
       ]
   none_after v (off_site {c = d} h) settled =
       elim (cases_eq d c) [
@@ -126,15 +124,18 @@ module _ (now : DesignModel) (sound : HasSoundRows now) (done : List ℕ) (c : �
               site = h.site;
               none = h.none;
             }))
-            (settled_before now c component place at movable done d apart settled)
+            (one_before d apart settled)
       ]
   none_after v (overlap {a = a} {b = b} h) settled =
+      let a_settled = All-head (IsSettled after more) a (b ∷ []) settled in
+      let b_settled = All-tail (IsSettled after more) a (b ∷ []) settled in
       elim (cases_eq a c) [
         | inl a_is ↦
-            alone_here b h.box_a h.box_b (λ b_is. omega (arith, h.in_order)) settled.1 (rw a_is at h.stands_a) h.stands_b
+            alone_here b h.box_a h.box_b (λ b_is. omega (arith, h.in_order)) (All-head (IsSettled after more) b [] b_settled) (rw a_is at h.stands_a)
+            h.stands_b
             (ShareSquare-symmetric h.box_a h.box_b h.shared)
         | inr a_apart ↦ elim (cases_eq b c) [
-          | inl b_is ↦ alone_here a h.box_b h.box_a a_apart settled.0 (rw b_is at h.stands_b) h.stands_a h.shared
+          | inl b_is ↦ alone_here a h.box_b h.box_a a_apart a_settled (rw b_is at h.stands_b) h.stands_a h.shared
           | inr b_apart ↦
               before.none (Overlap a b)
               (overlap (record {
@@ -144,10 +145,10 @@ module _ (now : DesignModel) (sound : HasSoundRows now) (done : List ℕ) (c : �
                 stands_a = box_elsewhere now c component place at a h.box_a a_apart h.stands_a;
                 stands_b = box_elsewhere now c component place at b h.box_b b_apart h.stands_b;
                 shared = h.shared;
-              })) (
-                settled_before now c component place at movable done a a_apart settled.0,
-                settled_before now c component place at movable done b b_apart settled.1,
-              )
+              }))
+              (All-cons (IsSettled now done) a (b ∷ [])
+              (settled_before now c component place at movable done a a_apart a_settled)
+              (one_before b b_apart b_settled))
         ]
       ]
   none_after v (blocked {c = d} h) settled =
@@ -163,7 +164,7 @@ module _ (now : DesignModel) (sound : HasSoundRows now) (done : List ℕ) (c : �
               blocks = h.blocks;
               shared = h.shared;
             }))
-            (settled_before now c component place at movable done d apart settled)
+            (one_before d apart settled)
       ]
 
   pub settled_more : NoneSettled (moved_to now c component place) (done ++ c ∷ [])

@@ -1,18 +1,18 @@
--- The violations that concern only components that stay, by marks.
-use Rattle.std.proofs.Common.{◌≡◌, ◌↔◌, ℕ, ◌+◌, Bool, true, false, not, IsTrue, List, [], ◌∷◌, ◌++◌, length, Some, slice_get, refl, sym, ap, ◌∙◌, inl, inr, arith}
+-- The violations that name only components that stay, by marks.
+use Rattle.std.proofs.Common.{◌≡◌, ◌↔◌, ℕ, ◌+◌, Bool, true, false, not, IsTrue, List, [], ◌∷◌, ◌++◌, length, get_or, Some, slice_get, All, refl, sym, ap, ◌∙◌, inl, inr, arith}
 use Rattle.std.proofs.lemmas.Bool.{cases_lt, false≢true}
 use Rattle.std.proofs.lemmas.List.{length_push}
 use Rattle.std.proofs.lemmas.List.Elements.{All-weaker}
-use Rattle.std.proofs.lemmas.Option.{same_Some, slice_get_within}
+use Rattle.std.proofs.lemmas.Option.{same_Some}
 use Rattle.leg_lemmas.proofs.Places.{in_first, get_last}
 use Rattle.leg_design_records.specs.Records.{DesignModel}
 use Rattle.leg_design_records.specs.declared.fault.Fault.{Fault}
-use Rattle.leg_design_records.specs.Violation.{IsListOf}
+use Rattle.leg_design_records.specs.Violation.{components_of, IsListOf}
 use Rattle.leg_rules.specs.Placement.Violations.{IsPlacementViolation}
-use Rattle.leg_rules.specs.Placement.Violations.IsPlacementViolation.{unplaced, outside, off_site, overlap, blocked}
-use Rattle.leg_place.specs.Among.{NamesOnlyMarked, IsViolationAmong}
+use Rattle.leg_place.specs.Among.{IsMarked, IsViolationAmong}
+use Rattle.leg_place.proofs.PlaceFaults.{components_below}
 use Rattle.leg_design_records.specs.Movable.{IsMovable}
-use Rattle.leg_rules.specs.Legalise.Refusals.{ConcernsStaying, IsStayingViolation}
+use Rattle.leg_rules.specs.Legalise.Refusals.{IsStayingViolation}
 use Rattle.leg_legal.specs.Steps.Marks.{AreMarksBelow}
 
 -- a mark of a component that isn't movable
@@ -49,27 +49,13 @@ module _ (design : DesignModel) where
     ];
   }
 
-  -- where the marks tell which components stay, a violation tells marked ones alone just where it concerns only such
+  -- where the marks say which components stay, a violation names marked ones alone just where it names only such
   module _ (marks : List Bool) (are : AreMarksBelow design (length design.components) marks) where
-    staying_of : (v : Fault) → IsPlacementViolation design v → NamesOnlyMarked marks v → ConcernsStaying design v
-    staying_of v (unplaced {c = c} h) told = (are.each c (slice_get_within design.components c h.component h.there)).0 told
-    staying_of v (outside {c = c} h) told = (are.each c (slice_get_within design.components c h.stands.component h.stands.there)).0 told
-    staying_of v (off_site {c = c} h) told = (are.each c (slice_get_within design.components c h.component h.there)).0 told
-    staying_of v (overlap {a = a} {b = b} h) told = (
-      (are.each a (slice_get_within design.components a h.stands_a.component h.stands_a.there)).0 told.0,
-      (are.each b (slice_get_within design.components b h.stands_b.component h.stands_b.there)).0 told.1,
-    )
-    staying_of v (blocked {c = c} h) told = (are.each c (slice_get_within design.components c h.stands.component h.stands.there)).0 told
+    staying_of : (v : Fault) → IsPlacementViolation design v → All (IsMarked marks) (components_of v) → All (λ c. IsMovable design c → ⊥) (components_of v)
+    staying_of v h marked k d within = (are.each (get_or (components_of v) k d) (components_below design v h k d within)).0 (marked k d within)
 
-    marked_of : (v : Fault) → IsPlacementViolation design v → ConcernsStaying design v → NamesOnlyMarked marks v
-    marked_of v (unplaced {c = c} h) stays = (are.each c (slice_get_within design.components c h.component h.there)).1 stays
-    marked_of v (outside {c = c} h) stays = (are.each c (slice_get_within design.components c h.stands.component h.stands.there)).1 stays
-    marked_of v (off_site {c = c} h) stays = (are.each c (slice_get_within design.components c h.component h.there)).1 stays
-    marked_of v (overlap {a = a} {b = b} h) stays = (
-      (are.each a (slice_get_within design.components a h.stands_a.component h.stands_a.there)).1 stays.0,
-      (are.each b (slice_get_within design.components b h.stands_b.component h.stands_b.there)).1 stays.1,
-    )
-    marked_of v (blocked {c = c} h) stays = (are.each c (slice_get_within design.components c h.stands.component h.stands.there)).1 stays
+    marked_of : (v : Fault) → IsPlacementViolation design v → All (λ c. IsMovable design c → ⊥) (components_of v) → All (IsMarked marks) (components_of v)
+    marked_of v h stays k d within = (are.each (get_or (components_of v) k d) (components_below design v h k d within)).1 (stays k d within)
 
     -- so the list of the ones is that of the others
     pub staying_list : (faults : List Fault) → IsListOf (IsViolationAmong design marks) faults → IsListOf (IsStayingViolation design) faults

@@ -1,5 +1,5 @@
 -- The theorem of the run: what comes of it is legally placed, and the same but for places.
-use Rattle.std.proofs.Common.{◌≡◌, ℕ, List, Option, None, Some, refl, sym, ◌∙◌, inl, inr}
+use Rattle.std.proofs.Common.{◌≡◌, ℕ, List, get_or, Option, None, Some, refl, sym, ◌∙◌, inl, inr}
 use Rattle.std.proofs.lemmas.List.Elements.{All-contains}
 use Rattle.std.proofs.lemmas.Option.{same_Some}
 use Rattle.leg_lemmas.proofs.Places.{all_at}
@@ -7,13 +7,13 @@ use Rattle.leg_geom.specs.declared.place.Place.{Place}
 use Rattle.leg_design_records.specs.Records.{DesignModel}
 use Rattle.leg_design_records.specs.WellFormedParts.{IsPlaced, IsComponent}
 use Rattle.leg_design_records.specs.WellFormed.{IsWellFormed}
-use Rattle.leg_design_records.specs.declared.fault.Fault.{Fault}
+use Rattle.leg_design_records.specs.Violation.{components_of}
 use Rattle.leg_design_records.specs.declared.fault.Fault.TheVariants.{Unplaced}
 use Rattle.leg_design_records.specs.declared.records.Status.{Status}
 use Rattle.leg_design_records.specs.declared.records.Status.TheVariants as status
 use Rattle.leg_design_records.specs.declared.records.Component.{Component}
-use Rattle.leg_rules.specs.Placement.Violations.{IsPlacementViolation, IsLegallyPlaced}
-use Rattle.leg_rules.specs.Placement.Violations.IsPlacementViolation.{unplaced, outside, off_site, overlap, blocked}
+use Rattle.leg_rules.specs.Placement.Violations.{IsLegallyPlaced}
+use Rattle.leg_rules.specs.Placement.Violations.IsPlacementViolation.{unplaced}
 use Rattle.leg_design_records.specs.Movable.{MayMove, IsMovable}
 use Rattle.leg_rules.specs.Legalise.Free.{IsSettled}
 use Rattle.leg_rules.specs.Legalise.Turns.{IsOrderOfTaking}
@@ -22,7 +22,6 @@ use Rattle.leg_rules.specs.Legalise.SameButForPlaces.{IsPlacedAnew, IsSameButFor
 use Rattle.leg_rules.specs.Legalise.Refusals.{NoneStaying}
 use Rattle.leg_design_records.proofs.MovableOrNot.{movable_or_not}
 use Rattle.leg_legal.proofs.OnRow.{HasSoundRows}
-use Rattle.leg_legal.proofs.SettledPlaces.{ConcernsSettled}
 use Rattle.leg_legal.proofs.RunSoFar.{IsSoFar, so_far, none_settled}
 use Rattle.leg_legal.proofs.TheOrder.{order_movable}
 
@@ -38,17 +37,11 @@ module _ (before after : DesignModel) (order : List ℕ) (is_order : IsOrderOfTa
         | inr stays ↦ inl stays
       ]
 
-  all_concerned : (fault : Fault) → IsPlacementViolation after fault → ConcernsSettled after order fault
-  all_concerned v (unplaced {c = c} h) = all_settled c
-  all_concerned v (outside {c = c} h) = all_settled c
-  all_concerned v (off_site {c = c} h) = all_settled c
-  all_concerned v (overlap {a = a} {b = b} h) = (all_settled a, all_settled b)
-  all_concerned v (blocked {c = c} h) = all_settled c
-
   -- where no violation holds among what stays, the end of the run is legally placed
   pub run_legal : HasSoundRows before → NoneStaying before → IsLegallyPlaced after
   run_legal sound staying fault holds =
-      (none_settled before order after sound staying run (order_movable before order is_order)).none fault holds (all_concerned fault holds)
+      (none_settled before order after sound staying run (order_movable before order is_order)).none fault holds
+      (λ k d within. all_settled (get_or (components_of fault) k d))
 
   -- and the same but for places
   pub run_same : IsSameButForPlaces before after

@@ -1,7 +1,6 @@
 //! How far components move that take places.
 
-ghost use Rattle.std.specs.Prelude.{◌≡◌, ◌≤◌, ℤ, pos, All, IfOk, length, replicate};
-ghost use Rattle.std.specs.Int.{int_max};
+ghost use Rattle.std.specs.Prelude.{◌≡◌, ◌≤◌, pos, All, IfOk, length, replicate};
 ghost use Rattle.leg_design_records.specs.declared.limits.TheConstants.{ENTRY_LIMIT};
 ghost use Rattle.leg_rules.specs.Legalise.Moves.{AreMoves, total_of, greatest_of};
 ghost use Rattle.leg_rules.specs.Legalise.Start.{distance};

@@ -36,7 +36,14 @@ fn wanted_with<A: Allocator>(
     number: usize,
     site: &Extent,
 ) -> Wanted
-    ensures is { result ≡ record { start = start; site = number; site_width = site.now.width; many = unsigned_abs master.now.size.width / unsigned_abs site.now.width; orient = orient_if_placed place.now; y_symmetric = master.now.y_symmetric } }
+    ensures is { result ≡ record {
+      start = start;
+      site = number;
+      site_width = site.now.width;
+      many = unsigned_abs master.now.size.width / unsigned_abs site.now.width;
+      orient = orient_if_placed place.now;
+      y_symmetric = master.now.y_symmetric;
+    } }
     ensures area { IsExtent site.now }
     ensures has_area { IsExtent master.now.size }
 {
@@ -112,7 +119,8 @@ pub(crate) fn best_place<A: Allocator + Copy>(
     wanted: &Wanted,
 ) -> Option<Place>
     requires { AreToBeAsked design.now free.now wanted.now }
-    ensures best { (c : ℕ) (boxes : List RectModel) → IsWantedOf design.now c wanted.now → AreFreeLists design.now boxes free.now → IsBestPlace design.now boxes c result }
+    ensures best { (c : ℕ) (boxes : List RectModel) → IsWantedOf design.now c wanted.now → AreFreeLists design.now boxes free.now
+        → IsBestPlace design.now boxes c result }
     ensures position { IfSome result (λ place. IsPosition place.at) }
 {
     let rows = design.rows();

@@ -1,4 +1,4 @@
-//! The violations that concern only components that stay.
+//! The violations that name only components that stay.
 
 ghost use Rattle.std.specs.Prelude.{◌≡◌, length, IfOk};
 ghost use Rattle.leg_design_records.specs.Violation.{IsListOf};
@@ -24,7 +24,7 @@ fn marks_of_staying<A: Allocator + Copy>(
     Ok(marks)
 }
 
-/// The violations of placement that concern only components that stay.
+/// The violations of placement that name only components that stay.
 pub(crate) fn staying_faults<A: Allocator + Copy>(
     alloc: A,
     library: &Library<'_, A>,

@@ -76,7 +76,8 @@ fn seat<A: Allocator + Copy>(
     requires movable { IsMovable design.now number }
     requires suited { ¬ IsUnsuited design.now number }
     requires known { (boxes : List RectModel) × AreFreeLists design.now boxes free.old }
-    ensures seated { IfOk result (λ place. (boxes : List RectModel) → AreFreeLists design.now boxes free.old → IsSeated design.now boxes number place free.new) }
+    ensures seated { IfOk result (λ place. (boxes : List RectModel) → AreFreeLists design.now boxes free.old
+        → IsSeated design.now boxes number place free.new) }
     ensures position { IfOk result (λ place. IsPosition place.at) }
     ensures refused { IfErr result (λ fault. (boxes : List RectModel) → AreFreeLists design.now boxes free.old → IsSeatFault design.now boxes number fault) }
 {

@@ -1,6 +1,6 @@
 //! Nodes of the tree on the way down.
 
-ghost use Rattle.std.specs.Prelude.{◌≡◌, ◌⊎◌, ◌+◌, ◌*◌, ◌<◌, length};
+ghost use Rattle.std.specs.Prelude.{◌⊎◌, ◌+◌, ◌*◌, ◌<◌, length};
 ghost use Rattle.leg_legal_sites.specs.Steps.Branches.{IsLowerBranch};
 
 use crate::bounds::Bounds;
@@ -28,8 +28,10 @@ pub(crate) fn nearer_first<A: Allocator + Copy>(
 ) -> (Branch, Branch)
     requires there { 2 * branch.now.node + 1 < length nodes.now }
     requires owner { branch.now.owner < length lists.now }
-    ensures { (IsLowerBranch lists.now nodes.now branch.now (2 * branch.now.node) result.0 × IsLowerBranch lists.now nodes.now branch.now (2 * branch.now.node + 1) result.1)
-        ⊎ (IsLowerBranch lists.now nodes.now branch.now (2 * branch.now.node + 1) result.0 × IsLowerBranch lists.now nodes.now branch.now (2 * branch.now.node) result.1) }
+    ensures { (IsLowerBranch lists.now nodes.now branch.now (2 * branch.now.node) result.0
+        × IsLowerBranch lists.now nodes.now branch.now (2 * branch.now.node + 1) result.1)
+        ⊎ (IsLowerBranch lists.now nodes.now branch.now (2 * branch.now.node + 1) result.0
+        × IsLowerBranch lists.now nodes.now branch.now (2 * branch.now.node) result.1) }
 {
     let left = below(lists, nodes, branch, 2 * branch.node);
     let right = below(lists, nodes, branch, 2 * branch.node + 1);

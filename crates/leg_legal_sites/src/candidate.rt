@@ -1,6 +1,6 @@
 //! Free positions of a component, and which of them is better.
 
-ghost use Rattle.std.specs.Prelude.{◌≡◌, ◌↔◌, IsTrue, MatchBool};
+ghost use Rattle.std.specs.Prelude.{◌↔◌, IsTrue, MatchBool};
 ghost use Rattle.leg_rules.specs.Placement.Sites.{Fits};
 ghost use Rattle.leg_legal_sites.specs.Steps.BestPosition.{IsBetterOf};
 ghost use Rattle.leg_rules.specs.Legalise.Preference.{IsTurned, IsNoWorse};

@@ -1,6 +1,6 @@
 //! The free sites of all rows of a design.
 
-ghost use Rattle.std.specs.Prelude.{◌≡◌, List, [], ◌∷◌, ◌++◌, IfOk, OnOk};
+ghost use Rattle.std.specs.Prelude.{List, [], ◌∷◌, ◌++◌, IfOk, OnOk};
 ghost use Rattle.leg_geom.specs.Plane.{RectModel};
 ghost use Rattle.leg_legal_sites.specs.Steps.BestPosition.{AreReady, IsCandidate, IsBestOf};
 ghost use Rattle.leg_legal_sites.specs.Steps.FreeLists.{AreRowsOf, AreFreeLists, IsOfItsSite};

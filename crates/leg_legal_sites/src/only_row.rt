@@ -1,14 +1,14 @@
 //! How the sites that a rectangle meets are taken from the only row that it meets, as those of a component that is placed in a
 //! row, and else from rows by the tree.
 
-ghost use Rattle.std.specs.Prelude.{◌≡◌, ◌+◌, ◌*◌, ◌/◌, ◌<◌, ◌≤◌, ◌≤ℤ◌, ℕ, List, None, Some, length, slice_get, IsTrue, IfSome, OnOk};
+ghost use Rattle.std.specs.Prelude.{◌≡◌, ◌*◌, ◌<◌, ◌≤◌, ◌≤ℤ◌, ℕ, List, Some, length, slice_get, IsTrue, IfSome, OnOk};
 ghost use Rattle.leg_geom.specs.Plane.{IsCoordinate};
 ghost use Rattle.leg_design_records.specs.Records.{DesignModel};
 ghost use Rattle.leg_legal_sites.specs.declared.stretch.Stretch.{Stretch};
 ghost use Rattle.leg_legal_sites.specs.declared.row_keys.RowKey.{RowKey};
 ghost use Rattle.leg_legal_sites.specs.Steps.FreeLists.{AreRowsOf};
 ghost use Rattle.leg_legal_sites.specs.Steps.RowOrder.{IsRowOrder};
-ghost use Rattle.leg_legal_sites.specs.Steps.FreeListSharing.{list_of_node, row_lists};
+ghost use Rattle.leg_legal_sites.specs.Steps.FreeListSharing.{row_lists};
 ghost use Rattle.leg_legal_sites.specs.Steps.FreeRows.{AreTakenBeneath};
 ghost use Rattle.leg_legal_sites.specs.Steps.OnlyRow.{DoRise, AreAllSoHigh, IsOnlyMet};
 ghost use Rattle.leg_legal_sites.specs.Steps.SharedLists.{AreShared, HaveNoneBefore};
@@ -108,7 +108,9 @@ fn is_at_or_above(order: &[RowKey], place: usize, y: i64) -> bool
 fn join_above(nodes: &mut [Bounds], order: &[RowKey], node: usize)
     requires there { node < length order.now }
     requires count { length nodes.old ≡ 2 * length order.now }
-    ensures { (design : DesignModel) (lists : List (List Stretch)) → AreRowsOf design (record { lists = lists; order = order.now; nodes = nodes.old }) → AreRowsOf design (record { lists = lists; order = order.now; nodes = nodes.new }) }
+    ensures { (design : DesignModel) (lists : List (List Stretch))
+        → AreRowsOf design (record { lists = lists; order = order.now; nodes = nodes.old })
+        → AreRowsOf design (record { lists = lists; order = order.now; nodes = nodes.new }) }
 {
     let mut above = node;
     while above > 0 {

@@ -1,7 +1,6 @@
 //! Parts of a row in groups, so that a search passes those of a group at once.
 
-ghost use Rattle.std.specs.Prelude.{◌+◌, ◌*◌, ◌≤◌, length, IsTrue, IfOk};
-ghost use Rattle.leg_legal_sites.specs.declared.part_groups.TheConstants.{GROUP};
+ghost use Rattle.std.specs.Prelude.{◌≤◌, length, IsTrue, IfOk};
 ghost use Rattle.leg_legal_sites.specs.Steps.Parts.{AreNoLonger, AreGroups, IsShort};
 
 use crate::free_sites::FreeSites;

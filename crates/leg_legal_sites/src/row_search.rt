@@ -1,6 +1,6 @@
 //! The best free position of a component.
 
-ghost use Rattle.std.specs.Prelude.{◌≡◌, ◌⊎◌, ◌+◌, ◌*◌, ◌<◌, ◌≤◌, ◌≤ℤ◌, pos, List, [], None, Some, length, get_or, slice_get, unwrap_or};
+ghost use Rattle.std.specs.Prelude.{◌≡◌, ◌+◌, ◌*◌, ◌<◌, ◌≤◌, ◌≤ℤ◌, pos, List, [], None, Some, length, get_or, slice_get, unwrap_or};
 ghost use Rattle.leg_geom.specs.Gap.{apart};
 ghost use Rattle.leg_geom.specs.declared.limits.TheConstants.{COORDINATE_LIMIT};
 ghost use Rattle.leg_geom.specs.Plane.{IsCoordinate};
@@ -120,8 +120,11 @@ fn best_of_row<A: Allocator + Copy>(
 ) -> Option<Candidate>
     requires some { 1 ≤ wanted.now.many }
     requires wide { pos 1 ≤ℤ wanted.now.site_width }
-    requires within { row.now.site ≡ wanted.now.site → BeginWithin (record { left = row.now.at.x; width = wanted.now.site_width; start = wanted.now.start.x }) (unwrap_or list.now []) }
-    ensures { (rows : List Row) (free : List (List Stretch)) → slice_get rows number ≡ Some row.now → slice_get free number ≡ Some (unwrap_or list.now []) → IsBestOf (IsCandidateOf rows free wanted.now number) result }
+    requires within { row.now.site ≡ wanted.now.site
+        → BeginWithin (record { left = row.now.at.x; width = wanted.now.site_width; start = wanted.now.start.x }) (unwrap_or list.now []) }
+    ensures { (rows : List Row) (free : List (List Stretch))
+        → slice_get rows number ≡ Some row.now → slice_get free number ≡ Some (unwrap_or list.now [])
+        → IsBestOf (IsCandidateOf rows free wanted.now number) result }
 {
     let Some(sites) = list else {
         return None;

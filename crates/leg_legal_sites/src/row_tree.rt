@@ -3,7 +3,7 @@
 //! Its nodes are numbered from 1 on. Below node n are 2 n and 2 n + 1, and where there are as many rows as `order.len()`, the
 //! leaf of the row at place k of the order is node `order.len() + k`.
 
-ghost use Rattle.std.specs.Prelude.{◌≡◌, ◌*◌, ◌<◌, ◌≤◌, length, IfOk};
+ghost use Rattle.std.specs.Prelude.{◌*◌, ◌<◌, ◌≤◌, length, IfOk};
 ghost use Rattle.leg_legal_sites.specs.Steps.RowOrder.{IsRowOrder};
 ghost use Rattle.leg_legal_sites.specs.Steps.FreeListSharing.{row_lists};
 ghost use Rattle.leg_legal_sites.specs.Steps.FreeLists.{AreInDie, DoBoundRow, DoFit};

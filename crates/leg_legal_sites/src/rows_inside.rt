@@ -52,7 +52,8 @@ fn row_inside<A: Allocator + Copy>(
     number: usize,
 ) -> Result<RowParts<A>, AllocError>
     requires { number < length design.now.rows }
-    ensures { IfOk result (λ list. (row : Row) (site : Site) → IsRowAt design.now number row site → IsFreeList row site.size design.now.die (Contains []) list) }
+    ensures { IfOk result (λ list. (row : Row) (site : Site) → IsRowAt design.now number row site
+        → IsFreeList row site.size design.now.die (Contains []) list) }
 {
     let row = &design.rows()[number];
     let size = &design.library().sites()[row.site].size;

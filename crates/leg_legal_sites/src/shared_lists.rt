@@ -157,7 +157,9 @@ pub(crate) fn hand_down<A: Allocator + Copy>(
     requires alone { list_of_node lists.old (node / 2) ≡ None }
     ensures shared { AreShared order.now lists.new }
     ensures same { row_lists order.now lists.new ≡ row_lists order.now lists.old }
-    ensures rows { (design : DesignModel) → AreRowsOf design (record { lists = row_lists order.now lists.old; order = order.now; nodes = nodes.old }) → AreRowsOf design (record { lists = row_lists order.now lists.old; order = order.now; nodes = nodes.new }) }
+    ensures rows { (design : DesignModel)
+        → AreRowsOf design (record { lists = row_lists order.now lists.old; order = order.now; nodes = nodes.old })
+        → AreRowsOf design (record { lists = row_lists order.now lists.old; order = order.now; nodes = nodes.new }) }
     ensures none { OnOk result (list_of_node lists.new node ≡ None) }
     ensures before { (highest : ℕ) → HaveNoneBefore highest lists.old → HaveNoneBefore highest lists.new }
 {

@@ -1,7 +1,6 @@
 //! How sites are taken from the parts of a row.
 
-ghost use Rattle.std.specs.Prelude.{◌≡◌, ◌↔◌, ◌<◌, ◌≤◌, ℕ, length, vec_len, IsTrue, OnOk};
-ghost use Rattle.leg_legal_sites.specs.Steps.Stretches.{IsFreeSite};
+ghost use Rattle.std.specs.Prelude.{◌≡◌, ◌<◌, ◌≤◌, length, vec_len, IsTrue, OnOk};
 ghost use Rattle.leg_legal_sites.specs.Steps.Parts.{all_of, AreInRow, AreParts, HaveSameSites, LieBefore, LieBeyond, AreLostUpTo, AreAllFewer};
 
 use crate::free_sites::FreeSites;

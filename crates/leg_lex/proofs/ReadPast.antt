@@ -1,12 +1,12 @@
 -- What is read past: what a loop that looks for a form needs.
-use Rattle.std.proofs.Common.{◌≡◌, ℕ, suc, ◌<◌, Bool, true, false, List, [], ◌∷◌, length, Option, None, Some, is_some, refl, sym, ap, ◌∙◌, arith}
+use Rattle.std.proofs.Common.{◌≡◌, ℕ, suc, ◌<◌, Bool, true, false, List, [], ◌∷◌, length, Option, None, Some, is_some, codes, refl, sym, ap, ◌∙◌, arith}
 use Rattle.std.specs.Option.{option_or}
 use Rattle.std.proofs.lemmas.Bool.{false≢true}
 use Rattle.leg_lex.specs.Words.{Words, is_at, is_keyword, next_at, keyword_at}
-use Rattle.leg_lex.specs.Past.{past}
+use Rattle.leg_lex.specs.Past.{past, past_extension}
 use Rattle.leg_lex.proofs.Parts.{rest_is}
-use Rattle.leg_lex.proofs.Until.{Below, below_more}
-use Rattle.leg_lex.proofs.Shorter.{next_below}
+use Rattle.leg_lex.proofs.Until.{Below, below_bind, below_more}
+use Rattle.leg_lex.proofs.Shorter.{next_below, keyword_below}
 
 some_first : {X : Type 0} (o p : Option X) → is_some o ≡ true → option_or o p ≡ o
 some_first None p some = absurd (false≢true some)
@@ -73,3 +73,10 @@ keyword_later keyword words word rest next other =
 pub keyword_nowhere : (keyword : List ℕ) (words : Words) → next_at words ≡ None → is_at keyword words ≡ false → past (keyword_at keyword) words ≡ None
 keyword_nowhere keyword words next other =
     past_nowhere (keyword_at keyword) words next (keyword_is_there keyword words ∙ other)
+
+-- An extension takes a word at least.
+pub past_extension_below : (words : Words) → Below (length words) (past_extension words)
+unfolding past_extension
+past_extension_below words =
+    below_bind (omega arith) (keyword_below (codes "BEGINEXT") words) (λ start less.
+    below_more (omega arith) (past_below (keyword_at (codes "ENDEXT")) (keyword_below (codes "ENDEXT")) start.1))

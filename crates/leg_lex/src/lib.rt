@@ -29,6 +29,7 @@ pub use limits::{MILLIONTHS_LIMIT, NUMBER_LIMIT, TEXT_LIMIT, UNITS_LIMIT};
 pub use name::{Name, Names};
 pub use named_list::{Named, NamedList};
 pub use number::{micron, whole};
+pub use pieces::is_white;
 pub use read_fault::{Entry, FaultKind, Keyword, NameKind, Need, ReadFault};
 pub use token::Token;
 pub use word::{is_keyword, is_mark, is_name, is_word};

@@ -4,7 +4,7 @@ ghost use Rattle.std.specs.Prelude.{◌≡◌, ◌≢◌, IfErr};
 ghost use Rattle.std.specs.List.{after_first};
 ghost use Rattle.leg_lex.specs.declared.read_fault.FaultKind.TheVariants.{Memory};
 ghost use Rattle.leg_lex.specs.Words.{Reads, is_keyword, keyword_at, end_at, end_of};
-ghost use Rattle.leg_lex.specs.Past.{past};
+ghost use Rattle.leg_lex.specs.Past.{past, past_extension};
 
 use crate::cursor::Cursor;
 use crate::read_fault::ReadFault;
@@ -55,5 +55,15 @@ impl<'t, 'a> Cursor<'t, 'a> {
             self.any()?;
         }
         self.end_of(name)
+    }
+
+    /// Reads past an extension: `BEGINEXT`, and everything up to `ENDEXT`.
+    #[tactic(auto, unfolding(crate::specs::Past::past_extension))]
+    pub fn past_extension(&mut self) -> Result<(), ReadFault>
+        ensures reads { Reads (λ x. x) result self.new (past_extension self.old) }
+        ensures no_memory { IfErr result (λ fault. fault.kind ≢ Memory) }
+    {
+        self.keyword(b"BEGINEXT")?;
+        self.past_keyword(b"ENDEXT")
     }
 }

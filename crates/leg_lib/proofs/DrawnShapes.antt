@@ -11,7 +11,8 @@ use Rattle.leg_lib_records.specs.Records.{RawLibraryModel}
 use Rattle.leg_grammar.specs.Lef.Geometry.{says_nothing, nothing_drawn, geometry_part, geometry_at}
 
 -- one more word that says nothing
-pub nothing_more_said : (words rest : Words) (word : List ℕ) (all : Bool) → word_at words ≡ Some (word, rest) → is_at (codes "EXCEPTPGNET") words ≡ false → list_all says_nothing words ≡ all → list_all says_nothing rest ≡ all
+pub nothing_more_said : (words rest : Words) (word : List ℕ) (all : Bool) → word_at words ≡ Some (word, rest) → is_at (codes "EXCEPTPGNET") words ≡ false
+    → list_all says_nothing words ≡ all → list_all says_nothing rest ≡ all
 unfolding word_at next_at
 nothing_more_said [] rest word all said other before = absurd (let e : ⊥ = cc in e)
 nothing_more_said (first ∷ words) rest word all said other before = by (is_word first) refl where

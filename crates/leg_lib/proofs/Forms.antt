@@ -1,14 +1,14 @@
 -- The forms of a text: each takes a word at least, and what their loop keeps.
 use Rattle.std.proofs.Common.{◌≡◌, ℕ, ◌<◌, true, false, ◌||◌, List, [], ◌∷◌, length, None, Some, codes, refl, arith}
-use Rattle.leg_lex.specs.Words.{Words, is_at, keyword_at, end_at, end_of}
+use Rattle.leg_lex.specs.Words.{Words, is_at, end_at, end_of}
 use Rattle.leg_lex.specs.Until.{until}
 use Rattle.leg_lex.proofs.Until as loops
 use Rattle.leg_lex.proofs.Until.{Below, Shortens, below_some, below_bind, below_more, below_if}
 use Rattle.leg_lex.proofs.Shorter.{next_below, keyword_below, name_below, end_below, end_of_below}
 use Rattle.leg_lex.proofs.Statements.{statement_below}
-use Rattle.leg_lex.proofs.ReadPast.{past_below}
+use Rattle.leg_lex.proofs.ReadPast.{past_below, past_extension_below}
 use Rattle.leg_lib_records.specs.Records.{RawLibraryModel}
-use Rattle.leg_grammar.specs.Lef.Form.{past_named, past_lef_section, past_lef_extension, past_statement, past_lef_form, lef_form_at, at_last}
+use Rattle.leg_grammar.specs.Lef.Form.{past_named, past_lef_section, past_statement, past_lef_form, lef_form_at, at_last}
 use Rattle.leg_lib.proofs.Layers.{with_layer_below}
 use Rattle.leg_lib.proofs.Vias.{with_via_below}
 use Rattle.leg_lib.proofs.Sites.{with_site_below}
@@ -26,12 +26,6 @@ unfolding past_lef_section
 past_section_below keyword words =
     below_bind (omega arith) (keyword_below keyword words) (λ start less.
     below_more (omega arith) (past_below (end_at keyword) (end_below keyword) start.1))
-
-past_extension_below : (words : Words) → Below (length words) (past_lef_extension words)
-unfolding past_lef_extension
-past_extension_below words =
-    below_bind (omega arith) (keyword_below (codes "BEGINEXT") words) (λ start less.
-    below_more (omega arith) (past_below (keyword_at (codes "ENDEXT")) (keyword_below (codes "ENDEXT")) start.1))
 
 past_statement_below : (words : Words) → Below (length words) (past_statement words)
 unfolding past_statement

@@ -26,7 +26,8 @@ not_two_words (a ∷ b ∷ []) other = absurd (other refl)
 not_two_words (a ∷ b ∷ c ∷ words) other = refl
 
 -- after its keyword a table has the word of its sort
-pub is_table_of : (statement : Words) → is_at (codes "SPACINGTABLE") statement ≡ true → is_table statement ≡ is_at (codes "PARALLELRUNLENGTH") (after_first (is_keyword (codes "SPACINGTABLE")) statement)
+pub is_table_of : (statement : Words) → is_at (codes "SPACINGTABLE") statement ≡ true
+    → is_table statement ≡ is_at (codes "PARALLELRUNLENGTH") (after_first (is_keyword (codes "SPACINGTABLE")) statement)
 is_table_of [] there = absurd (false≢true there)
 is_table_of (word ∷ words) there = rw there refl
 

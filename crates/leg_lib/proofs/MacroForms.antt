@@ -67,16 +67,20 @@ pub macro_part_shorter : (library : RawLibraryModel) (parts more : MacroParts) (
 macro_part_shorter library parts more words rest said = (macro_part_shortens library parts words).left more rest said
 
 -- one more part
-pub macro_parts_on : (library : RawLibraryModel) (parts more : MacroParts) (words rest : Words) → macro_part library parts words ≡ Some (more, rest) → is_at (codes "END") words ≡ false → until at_end (macro_part library) parts words ≡ until at_end (macro_part library) more rest
+pub macro_parts_on : (library : RawLibraryModel) (parts more : MacroParts) (words rest : Words)
+    → macro_part library parts words ≡ Some (more, rest) → is_at (codes "END") words ≡ false
+    → until at_end (macro_part library) parts words ≡ until at_end (macro_part library) more rest
 macro_parts_on library parts more words rest said goes =
     loops.goes_on at_end (macro_part library) (macro_part_shortens library) parts more words rest goes said
 
 -- no more parts
-pub macro_parts_end : (library : RawLibraryModel) (parts : MacroParts) (words : Words) → is_at (codes "END") words ≡ true → until at_end (macro_part library) parts words ≡ Some (parts, words)
+pub macro_parts_end : (library : RawLibraryModel) (parts : MacroParts) (words : Words)
+    → is_at (codes "END") words ≡ true → until at_end (macro_part library) parts words ≡ Some (parts, words)
 macro_parts_end library parts words stops = loops.ends at_end (macro_part library) parts words stops
 
 -- what stands there is no part
-pub macro_parts_fail : (library : RawLibraryModel) (parts : MacroParts) (words : Words) → macro_part library parts words ≡ None → is_at (codes "END") words ≡ false → until at_end (macro_part library) parts words ≡ None
+pub macro_parts_fail : (library : RawLibraryModel) (parts : MacroParts) (words : Words)
+    → macro_part library parts words ≡ None → is_at (codes "END") words ≡ false → until at_end (macro_part library) parts words ≡ None
 macro_parts_fail library parts words said goes = loops.fails at_end (macro_part library) parts words goes said
 
 pub macro_below : (library : RawLibraryModel) (words : Words) → Below (length words) (macro_at library words)
@@ -134,7 +138,8 @@ with_y found words =
     if list_all is_word words then Some (found || list_any (is_keyword (codes "Y")) words) else None
 
 -- one more word
-pub symmetry_on : (found : Bool) (words : Words) (word : List ℕ) (rest : Words) → word_at words ≡ Some (word, rest) → with_y found words ≡ with_y (found || is_keyword (codes "Y") word) rest
+pub symmetry_on : (found : Bool) (words : Words) (word : List ℕ) (rest : Words)
+    → word_at words ≡ Some (word, rest) → with_y found words ≡ with_y (found || is_keyword (codes "Y") word) rest
 symmetry_on found words word rest said =
     let taken = word_taken words word rest said in
     rw (taken.is, taken.a_word, or_assoc found (is_keyword (codes "Y") word) (list_any (is_keyword (codes "Y")) rest)) refl
@@ -149,7 +154,10 @@ symmetry_fails found [] some said = absurd (some refl)
 symmetry_fails found (word ∷ words) some said = rw (no_word_taken word words said) refl
 
 -- what a SYMMETRY says, whose first word is a name or a quoted word
-pub symmetry_said : (statement start : Words) (nothing : Unit {0}) (word : List ℕ) (rest : Words) (said : Option Bool) → keyword_at (codes "SYMMETRY") statement ≡ Some (nothing, start) → word_at start ≡ Some (word, rest) → (if list_all is_word start then Some (list_any (is_keyword (codes "Y")) start) else None) ≡ said → symmetry_in statement ≡ said
+pub symmetry_said : (statement start : Words) (nothing : Unit {0}) (word : List ℕ) (rest : Words) (said : Option Bool)
+    → keyword_at (codes "SYMMETRY") statement ≡ Some (nothing, start) → word_at start ≡ Some (word, rest)
+    → (if list_all is_word start then Some (list_any (is_keyword (codes "Y")) start) else None) ≡ said
+    → symmetry_in statement ≡ said
 unfolding symmetry_in
 symmetry_said statement start nothing word rest said begins first is =
     let taken = word_taken start word rest first in

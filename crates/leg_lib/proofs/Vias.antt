@@ -28,7 +28,8 @@ flag_no_longer flags words =
     let less = drop_no_longer words in
     either_no_longer (length words) (is_at (codes "DEFAULT") words && not flags.is_default) (record flags { is_default = true }, drop 1 words) _ less
     (either_no_longer (length words) (is_at (codes "TOPOFSTACKONLY") words && not flags.is_top_only) (record flags { is_top_only = true }, drop 1 words) _ less
-    (either_no_longer (length words) (is_at (codes "GENERATED") words && not flags.is_generated) (record flags { is_generated = true }, drop 1 words) (flags, words) less (omega arith)))
+    (either_no_longer (length words) (is_at (codes "GENERATED") words && not flags.is_generated) (record flags { is_generated = true }, drop 1 words)
+    (flags, words) less (omega arith)))
 
 flags_no_longer : (words : Words) → length (flags_at words).1 ≤ length words
 unfolding flags_at

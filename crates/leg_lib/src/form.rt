@@ -1,6 +1,5 @@
 //! The forms of a LEF text (LEF/DEF 5.8, "LEF Syntax").
 
-ghost use Rattle.std.specs.Prelude.{codes};
 ghost use Rattle.leg_lex.specs.Until.{until};
 ghost use Rattle.leg_lex.specs.Words.{Reads, Means};
 ghost use Rattle.leg_grammar.specs.Lef.Form.{lef_form_at, at_last, ended, lef_in};

@@ -1,6 +1,6 @@
 //! Macros (LEF/DEF 5.8, "Macro").
 
-ghost use Rattle.std.specs.Prelude.{codes, not, if◌then◌else◌, Some, None};
+ghost use Rattle.std.specs.Prelude.{codes, if◌then◌else◌, Some, None};
 ghost use Rattle.std.specs.List.{list_any, list_all};
 ghost use Rattle.leg_lex.specs.Words.{Reads, Means, is_word, is_keyword};
 ghost use Rattle.leg_lex.specs.Statements.{only};

@@ -1,8 +1,7 @@
 //! The forms that are read past (LEF/DEF 5.8, "LEF Syntax"; lefdef's own rule).
 
-ghost use Rattle.std.specs.Prelude.{codes};
 ghost use Rattle.leg_lex.specs.Words.{Reads};
-ghost use Rattle.leg_grammar.specs.Lef.Form.{past_named, past_lef_section, past_lef_extension, past_statement, past_lef_form};
+ghost use Rattle.leg_grammar.specs.Lef.Form.{past_named, past_lef_section, past_statement, past_lef_form};
 
 use leg_lex::{Cursor, ReadFault};
 
@@ -23,15 +22,6 @@ fn past_section(keyword: &[u8], words: &mut Cursor<'_, '_>) -> Result<(), ReadFa
 {
     words.keyword(keyword)?;
     words.past_end(keyword)
-}
-
-/// `BEGINEXT`, and everything up to `ENDEXT`.
-#[tactic(auto, unfolding(leg_grammar::specs::Lef::Form::past_lef_extension))]
-fn past_extension(words: &mut Cursor<'_, '_>) -> Result<(), ReadFault>
-    ensures { Reads (λ x. x) result words.new (past_lef_extension words.old) }
-{
-    words.keyword(b"BEGINEXT")?;
-    words.past_keyword(b"ENDEXT")
 }
 
 /// Any other form, up to its semicolon.
@@ -57,7 +47,7 @@ pub(crate) fn past_form(words: &mut Cursor<'_, '_>) -> Result<(), ReadFault>
     } else if words.is_at(b"SPACING") {
         past_section(b"SPACING", words)
     } else if words.is_at(b"BEGINEXT") {
-        past_extension(words)
+        words.past_extension()
     } else {
         past_statement(words)
     }

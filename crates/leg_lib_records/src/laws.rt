@@ -19,6 +19,7 @@ pub fn one_library_at_units()
 /// The parts of a good via join two routing layers by cuts on a layer between them, and lie nowhere else.
 #[tactic(auto, using(crate::proofs::JoinLayers::good_vias_join, crate::proofs::JoinLayers::holds_is))]
 pub fn good_vias_join_layers()
-    ensures joined { (layers : List LayerUse) (parts : List ViaPart) → IsTrue (join_layers layers parts) ↔ ((low : ℕ) × (cut : ℕ) × (high : ℕ) × Joins layers parts low cut high) }
+    ensures joined { (layers : List LayerUse) (parts : List ViaPart)
+        → IsTrue (join_layers layers parts) ↔ ((low : ℕ) × (cut : ℕ) × (high : ℕ) × Joins layers parts low cut high) }
     ensures origin { (r : RectModel) → IsTrue (holds_origin r) ↔ HoldsOrigin r }
 {}

@@ -95,7 +95,15 @@ impl<'a, A: Allocator> Model for RawMaster<'a, A> {
 
     ghost Value = { RawMasterModel };
 
-    ghost view = { λ m. record { name = m.name; size = m.size; origin = m.origin; y_symmetric = m.y_symmetric; site = m.site; pins = m.pins; obstructions = m.obstructions } };
+    ghost view = { λ m. record {
+      name = m.name;
+      size = m.size;
+      origin = m.origin;
+      y_symmetric = m.y_symmetric;
+      site = m.site;
+      pins = m.pins;
+      obstructions = m.obstructions;
+    } };
 }
 
 impl Named for RawLayer<'_> {

@@ -10,8 +10,8 @@ use Rattle.leg_design_records.specs.declared.fault.Fault.TheVariants.{Unplaced, 
 use Rattle.leg_rules.specs.declared.piece.Piece.{Piece}
 use Rattle.leg_rules.specs.declared.shape.Shape.{Shape}
 use Rattle.leg_rules.specs.Metal.Flat.{FlatModel}
-use Rattle.leg_output.specs.Names.{layer_name, net_name, owner_text, piece_text}
-use Rattle.leg_rules.specs.Names.{component_name}
+use Rattle.leg_output.specs.Names.{layer_name, owner_text, piece_text}
+use Rattle.leg_design_records.specs.Names.{net_name, component_name}
 
 -- left, lower, right, upper
 abbrev pub sides_text : RectModel → List ℕ

@@ -1,16 +1,17 @@
 -- The violations that are asked of one component by itself, and those that are not.
-use Rattle.std.proofs.Common.{◌≡◌, ◌≢◌, ◌↔◌, ℕ, Bool, List, ◌⊎◌, inl, inr, refl, arith}
+use Rattle.std.proofs.Common.{◌≡◌, ◌≢◌, ◌↔◌, ℕ, Bool, List, [], ◌∷◌, All, ◌⊎◌, inl, inr, refl, arith}
 use Rattle.std.proofs.lemmas.Bool.{cases_eq}
+use Rattle.std.proofs.lemmas.List.Elements.{All-head, All-cons, All-nil}
 use Rattle.leg_design_records.specs.Records.{DesignModel}
 use Rattle.leg_design_records.specs.declared.fault.Fault.{Fault}
 use Rattle.leg_design_records.specs.declared.fault.Fault.TheVariants as faults
-use Rattle.leg_design_records.specs.Violation.{kind_number, numbers_of}
+use Rattle.leg_design_records.specs.Violation.{kind_number, numbers_of, components_of}
 use Rattle.leg_design_records.proofs.FaultNumbers.{same_fault, no_second_number}
 use Rattle.leg_place.specs.declared.component_fault.ComponentFault.{ComponentFault}
 use Rattle.leg_place.specs.declared.component_fault.ComponentFault.TheVariants.{Unplaced, Outside, OffSite, Blocked}
 use Rattle.leg_rules.specs.Placement.Violations.{IsPlacementViolation}
 use Rattle.leg_rules.specs.Placement.Violations.IsPlacementViolation.{unplaced, outside, off_site, overlap, blocked}
-use Rattle.leg_place.specs.Among.{IsMarked, NamesOnlyMarked}
+use Rattle.leg_place.specs.Among.{IsMarked}
 use Rattle.leg_place.specs.Steps.ComponentFault.{fault_of}
 
 -- a kind that is asked of one component, as proofs of other crates name it
@@ -47,12 +48,16 @@ is_of_component Blocked v same = same_fault v (faults.Blocked (numbers_of v).0) 
 pub is_overlap : (v : Fault) → kind_number v ≡ overlap_kind → v ≡ faults.Overlap (numbers_of v).0 (numbers_of v).1
 is_overlap v same = same_fault v (faults.Overlap (numbers_of v).0 (numbers_of v).1) same refl refl
 
--- the violation of a component names marked ones alone just where the component is marked
-pub tells_marked : (kind : ComponentFault) (marks : List Bool) (c : ℕ) → NamesOnlyMarked marks (fault_of kind c) ↔ IsMarked marks c
-tells_marked Unplaced marks c = (λ h. h, λ h. h)
-tells_marked Outside marks c = (λ h. h, λ h. h)
-tells_marked OffSite marks c = (λ h. h, λ h. h)
-tells_marked Blocked marks c = (λ h. h, λ h. h)
+-- the violation of a component names this one alone
+names_one : (kind : ComponentFault) (c : ℕ) → components_of (fault_of kind c) ≡ c ∷ []
+names_one Unplaced c = refl
+names_one Outside c = refl
+names_one OffSite c = refl
+names_one Blocked c = refl
+
+-- so the components that it names are marked just where this one is
+pub names_marked : (kind : ComponentFault) (marks : List Bool) (c : ℕ) → All (IsMarked marks) (components_of (fault_of kind c)) ↔ IsMarked marks c
+names_marked kind marks c = rw (names_one kind c) (All-head (IsMarked marks) c [], λ marked. All-cons (IsMarked marks) c [] marked (All-nil (IsMarked marks)))
 
 -- a violation of placement is asked of one component, or is an overlap
 pub component_or_overlap : (design : DesignModel) (v : Fault) → IsPlacementViolation design v

@@ -5,13 +5,12 @@ use Rattle.std.proofs.lemmas.List.Elements.{All-push, All-weaker, Contains-appen
 use Rattle.std.proofs.lemmas.List.Quantifiers.{all_pairs_push}
 use Rattle.leg_design_records.specs.Records.{DesignModel}
 use Rattle.leg_design_records.specs.declared.fault.Fault.{Fault}
-use Rattle.leg_design_records.specs.declared.fault.Fault.TheVariants.{Short}
 use Rattle.leg_design_records.specs.Violation.{kind_number, numbers_of, ComesBefore, IsListOf}
 use Rattle.leg_place.specs.declared.component_fault.ComponentFault.{ComponentFault}
 use Rattle.leg_place.specs.Among.{IsViolationAmong}
 use Rattle.leg_place.specs.Steps.ComponentFault.{fault_of}
 use Rattle.leg_place.specs.Steps.ListPrefix.{IsViolationBefore, IsListBefore}
-use Rattle.leg_place.proofs.PlaceFaults.{kind_below, component_below, same_list}
+use Rattle.leg_place.proofs.PlaceFaults.{placement_end, kind_below, component_below, same_list}
 use Rattle.leg_place.proofs.ComponentFaults.{number_of_kind, of_component, is_of_component}
 
 module _ (design : DesignModel) (marks : List Bool) where
@@ -31,11 +30,10 @@ module _ (design : DesignModel) (marks : List Bool) where
       })
       found done
 
-  -- before the first kind that is none of placement the list is whole
-  pub listing_whole : (found : List Fault) → IsListBefore design marks (kind_number (Short 0 0)) 0 found
-      → IsListOf (IsViolationAmong design marks) found
+  -- at the end of the kinds of placement the list is whole
+  pub listing_whole : (found : List Fault) → IsListBefore design marks placement_end 0 found → IsListOf (IsViolationAmong design marks) found
   listing_whole found done =
-      same_list (IsViolationBefore design marks (kind_number (Short 0 0)) 0) (IsViolationAmong design marks)
+      same_list (IsViolationBefore design marks placement_end 0) (IsViolationAmong design marks)
       (λ v held. held.holds)
       (λ v holds.
       let below = kind_below design v holds.holds in

@@ -2,7 +2,7 @@
 use Rattle.std.proofs.Common.{◌≡◌, ℕ, Bool, true, replicate, ◌<◌, ◌≤◌, List, ◌++◌, map, Option, Some, None, slice_get, length, Contains, refl, sym, ap, ◌∙◌, inl, inr, All, ◌+◌, ◌∷◌, [], get_or, take, arith}
 use Rattle.std.proofs.lemmas.Bool.{cases_lt, cases_eq}
 use Rattle.std.proofs.lemmas.List.{take_more, map-append, append_assoc}
-use Rattle.std.proofs.lemmas.List.Elements.{All-append, All-map, All-weaker, Contains-append_left, Contains-append_right}
+use Rattle.std.proofs.lemmas.List.Elements.{All-nil, All-cons, All-head, All-tail, All-append, All-map, All-weaker, Contains-append_left, Contains-append_right}
 use Rattle.std.proofs.lemmas.Option.{same_Some, slice_get_within, slice_get-get_or, get_or_from_slice_get}
 use Rattle.leg_lemmas.proofs.Places.{all_at, place_of_contained}
 use Rattle.leg_lemmas.proofs.Contents.{Contains-nil, Contains-map}
@@ -68,10 +68,12 @@ module _ (design : DesignModel) (marks : List Bool) (n : ℕ) (boxes : List Plac
           stands_b = all_at (λ box. HasBox design box.component box.rect) boxes p.1 pair.b are.each pair.b_at;
           shared = pair.holds;
         });
-        marked = (
-          all_at (λ box. IsMarked marks box.component) boxes p.0 pair.a are.marked pair.a_at,
-          all_at (λ box. IsMarked marks box.component) boxes p.1 pair.b are.marked pair.b_at,
-        );
+        marked =
+            All-cons (IsMarked marks) pair.a.component (pair.b.component ∷ [])
+            (all_at (λ box. IsMarked marks box.component) boxes p.0 pair.a are.marked pair.a_at)
+            (All-cons (IsMarked marks) pair.b.component []
+            (all_at (λ box. IsMarked marks box.component) boxes p.1 pair.b are.marked pair.b_at)
+            (All-nil (IsMarked marks)));
       })
 
   -- pairs in order are overlaps in order
@@ -165,7 +167,9 @@ module _ (design : DesignModel) (marks : List Bool) (found : List Fault) (before
           Contains-append_right found (map (overlap_of boxes) pairs) (Overlap a b)
           (overlap_from_pair design marks (length design.components) boxes are pairs are_pairs a b h
           (slice_get_within design.components a h.stands_a.component h.stands_a.there)
-          (slice_get_within design.components b h.stands_b.component h.stands_b.there) held.marked.0 held.marked.1)
+          (slice_get_within design.components b h.stands_b.component h.stands_b.there)
+          (All-head (IsMarked marks) a (b ∷ []) held.marked)
+          (All-head (IsMarked marks) b [] (All-tail (IsMarked marks) a (b ∷ []) held.marked)))
 
 -- two boxes at places in order that share a unit square
 pub pair_at : (boxes : List PlacedBox) (a b : ℕ) (first second : PlacedBox) → a < b → b < length boxes

@@ -1,6 +1,6 @@
 //! Overlapping components.
 
-ghost use Rattle.std.specs.Prelude.{◌≡◌, ◌+◌, ◌^◌, ◌↔◌, IsTrue, IfOk, OnOk};
+ghost use Rattle.std.specs.Prelude.{◌+◌, ◌^◌, ◌↔◌, IsTrue, IfOk, OnOk};
 ghost use Rattle.std.proofs.Common.{refl};
 ghost use Rattle.leg_geom.specs.Plane.{ShareSquare};
 ghost use Rattle.leg_geom.proofs.Gaps.{ShareSquare-symmetric, ShareSquare-gaps};

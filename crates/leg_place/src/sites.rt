@@ -1,6 +1,6 @@
 //! Components on the sites of rows (LEF/DEF 5.8, "Rows", "Site").
 
-ghost use Rattle.std.specs.Prelude.{◌≡◌, ◌<◌, ◌↔◌, length, AllPairs, IsTrue};
+ghost use Rattle.std.specs.Prelude.{◌<◌, ◌↔◌, length, AllPairs, IsTrue};
 ghost use Rattle.leg_geom.specs.Plane.{IsRect};
 ghost use Rattle.leg_lib_records.specs.Measure.{HasArea};
 ghost use Rattle.leg_design_records.specs.WellFormedParts.{IsPosition};

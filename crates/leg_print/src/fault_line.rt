@@ -1,21 +1,19 @@
 //! The lines of violations.
 
 ghost use Rattle.std.specs.Prelude.{◌≡◌, ◌++◌, ◌∷◌, [], None, IfOk, OnOk, option_map, codes};
-ghost use Rattle.std.specs.List.{flat_map};
 ghost use Rattle.std.specs.Fmt.{signed_decimal};
 ghost use Rattle.leg_output.specs.Words.{spaced};
 ghost use Rattle.leg_design_records.specs.declared.fault.Fault.TheVariants.{Overlap};
-ghost use Rattle.leg_rules.specs.Names.{component_name};
+ghost use Rattle.leg_design_records.specs.Names.{component_name};
 ghost use Rattle.leg_output.specs.Lines.{shape_text, shape_at, piece_at, pair_line, open_line, violation_line, violations_text};
 
-use crate::name::{component_name, layer_name, net_name, push_owner, push_piece};
-use crate::words::push_parts;
+use crate::name::{layer_name, push_owner, push_piece};
 use itoa::Buffer;
 use leg_design_records::{Design, Fault};
 use leg_flat::{Flat, Piece, Shape};
 use leg_geom::Rect;
 use leg_lib_records::Library;
-use leg_print_words::{push_first, push_line_feed, push_words};
+use leg_print_words::{push_first, push_line_feed, push_parts, push_words};
 use std::alloc::{AllocError, Allocator};
 
 /// A line for each violation, in their order.
@@ -103,7 +101,7 @@ fn push_component<A: Allocator + Copy>(
 ) -> Result<(), AllocError>
     ensures { OnOk result (text.new.items ≡ text.old.items ++ word.now ++ component_name design.now component ++ codes "\n") }
 {
-    push_parts(text, &[word, component_name(design, component), b"\n"])
+    push_parts(text, &[word, design.component_name(component), b"\n"])
 }
 
 /// Adds the line of two overlapping components.
@@ -115,8 +113,8 @@ fn push_overlap<A: Allocator + Copy>(
 ) -> Result<(), AllocError>
     ensures { OnOk result (text.new.items ≡ text.old.items ++ violation_line design.now None (Overlap first second)) }
 {
-    let first = component_name(design, first);
-    let second = component_name(design, second);
+    let first = design.component_name(first);
+    let second = design.component_name(second);
     push_parts(text, &[b"OVERLAP ", first, b" ", second, b"\n"])
 }
 
@@ -128,7 +126,8 @@ fn push_pair<A: Allocator + Copy>(
     first: Option<&Shape>,
     second: Option<&Shape>,
 ) -> Result<(), AllocError>
-    ensures { OnOk result (text.new.items ≡ text.old.items ++ pair_line design.now word.now (option_map (λ shape. shape.now) first.entry) (option_map (λ shape. shape.now) second.entry)) }
+    ensures { OnOk result (text.new.items ≡ text.old.items ++ pair_line design.now word.now
+        (option_map (λ shape. shape.now) first.entry) (option_map (λ shape. shape.now) second.entry)) }
 {
     let (Some(first), Some(second)) = (first, second) else {
         return Ok(());
@@ -154,7 +153,8 @@ fn push_shape<A: Allocator + Copy>(
 
 /// Adds the sides of a rectangle, each after a blank: left, lower, right, upper.
 fn push_sides<A: Allocator>(text: &mut Vec<u8, A>, rect: &Rect) -> Result<(), AllocError>
-    ensures { OnOk result (text.new.items ≡ text.old.items ++ spaced (signed_decimal rect.now.x1 ∷ signed_decimal rect.now.y1 ∷ signed_decimal rect.now.x2 ∷ signed_decimal rect.now.y2 ∷ [])) }
+    ensures { OnOk result (text.new.items ≡ text.old.items ++ spaced
+        (signed_decimal rect.now.x1 ∷ signed_decimal rect.now.y1 ∷ signed_decimal rect.now.x2 ∷ signed_decimal rect.now.y2 ∷ [])) }
 {
     let mut left = Buffer::new();
     let mut lower = Buffer::new();
@@ -183,7 +183,7 @@ fn push_open<A: Allocator + Copy>(
     let Some(piece) = piece else {
         return Ok(());
     };
-    push_parts(text, &[b"OPEN ", net_name(design, net), b" "])?;
+    push_parts(text, &[b"OPEN ", design.net_name(net), b" "])?;
     push_piece(text, design, piece)?;
     push_line_feed(text)
 }

@@ -1,6 +1,6 @@
 //! The lines that a design text begins with.
 
-ghost use Rattle.std.specs.Prelude.{◌≡◌, ◌++◌, OnOk, option_map, codes};
+ghost use Rattle.std.specs.Prelude.{◌≡◌, ◌++◌, OnOk, option_map};
 ghost use Rattle.leg_output.specs.Words.{line};
 ghost use Rattle.leg_output.specs.Text.Header.{kept_line, units_words, die_words, header_text};
 

@@ -5,14 +5,13 @@ ghost use Rattle.std.specs.List.{flat_map};
 ghost use Rattle.leg_output.specs.Words.{spaced};
 ghost use Rattle.leg_output.specs.Text.Wires.{wire_words};
 ghost use Rattle.leg_output.specs.Text.Nets.{terminal_words, wiring_lines, wire_line, net_text};
-ghost use Rattle.leg_output.specs.Text.Whole.{net_section, nets_text};
+ghost use Rattle.leg_output.specs.Text.Whole.{nets_text};
 
 use crate::clauses::push_kept;
-use crate::name::terminal_names;
 use crate::sections::{push_section_end, push_section_start};
 use crate::wires::push_wire;
 use crate::words::push_start;
-use leg_design_records::{Design, Net, Terminal, Wire};
+use leg_design_records::{Design, Net, Terminal, Wire, net_section};
 use leg_print_words::{push_end, push_words};
 use std::alloc::{AllocError, Allocator};
 
@@ -25,7 +24,7 @@ fn push_terminals<A: Allocator + Copy>(
     ensures { OnOk result (text.new.items ≡ text.old.items ++ spaced (flat_map (terminal_words design.now) terminals.now)) }
 {
     for terminal in terminals {
-        let (owner, pin) = terminal_names(design, terminal);
+        let (owner, pin) = design.terminal_names(terminal);
         push_words(text, &[b"(", owner, pin, b")"])?;
     }
     Ok(())
@@ -78,13 +77,6 @@ fn push_net<A: Allocator + Copy>(
     push_kept(text, b"USE", &net.usage)?;
     push_wires(text, design, special, net.wires.as_slice())?;
     push_end(text)
-}
-
-/// The word of the section.
-fn net_section(special: bool) -> &'static [u8]
-    ensures { result.now ≡ net_section special }
-{
-    if special { b"SPECIALNETS" } else { b"NETS" }
 }
 
 /// Adds the section of these nets, which are those of `SPECIALNETS` or those of `NETS`, where there are any.

@@ -1,15 +1,13 @@
 //! Wires, each as a path of its own.
 
-ghost use Rattle.std.specs.Prelude.{◌≡◌, ◌++◌, ◌∷◌, [], None, Some, OnOk, if◌then◌else◌, codes, pos};
-ghost use Rattle.std.specs.Fmt.{signed_decimal};
-ghost use Rattle.std.specs.Ordering.{int_eq};
+ghost use Rattle.std.specs.Prelude.{◌≡◌, ◌++◌, ◌∷◌, OnOk};
 ghost use Rattle.leg_output.specs.Words.{spaced};
 ghost use Rattle.leg_design_records.specs.Wires.{default_extension};
 ghost use Rattle.leg_design_records.specs.WellFormedNets.{written};
 ghost use Rattle.leg_output.specs.Names.{layer_name};
-ghost use Rattle.leg_output.specs.Text.Wires.{number_words, width_words, point_words, given_extension, lowest_layer, lower_layer_of_via, via_wire_words, patch_words, wire_words};
+ghost use Rattle.leg_output.specs.Text.Wires.{width_words, point_words, given_extension, lowest_layer, lower_layer_of_via, via_wire_words, patch_words, wire_words};
 
-use crate::name::{layer_name, via_name, via_numbered};
+use crate::name::layer_name;
 use crate::points::push_spot;
 use itoa::Buffer;
 use leg_design_records::{Design, Wire};
@@ -106,7 +104,7 @@ fn lowest_layer(shapes: &[Shape]) -> usize
 fn layer_of_via<A: Allocator + Copy>(design: &Design<'_, A>, via: usize) -> usize
     ensures { result ≡ lower_layer_of_via design.now via }
 {
-    match via_numbered(design, via) {
+    match design.via_numbered(via) {
         Some(via) => lowest_layer(via.shapes.as_slice()),
         None => 0,
     }
@@ -124,7 +122,7 @@ fn push_via<A: Allocator + Copy>(
 {
     push_path_start(text, design, special, layer_of_via(design, via), 0)?;
     push_spot(text, at)?;
-    push_word(text, via_name(design, via))
+    push_word(text, design.via_name(via))
 }
 
 /// Adds the path of a rectangle, which is given from a point.

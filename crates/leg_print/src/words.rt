@@ -1,7 +1,6 @@
-//! Words of a line, and parts of a line, added to a text all at once.
+//! The words of a line, added to a text all at once.
 
 ghost use Rattle.std.specs.Prelude.{◌≡◌, ◌++◌, ◌∷◌, OnOk, map};
-ghost use Rattle.std.specs.List.{flat_map};
 ghost use Rattle.leg_output.specs.Words.{spaced, line};
 
 use leg_print_words::{push_first, push_line_feed, push_words};
@@ -29,17 +28,4 @@ pub(crate) fn push_line<A: Allocator>(
 {
     push_start(text, first, words)?;
     push_line_feed(text)
-}
-
-/// Adds parts of a line, side by side.
-pub(crate) fn push_parts<A: Allocator>(
-    text: &mut Vec<u8, A>,
-    parts: &[&[u8]],
-) -> Result<(), AllocError>
-    ensures { OnOk result (text.new.items ≡ text.old.items ++ flat_map (λ part. part.now) parts.now) }
-{
-    for part in parts {
-        push_first(text, part)?;
-    }
-    Ok(())
 }

@@ -24,7 +24,7 @@ use Rattle.leg_grammar.specs.Def.PathItem.{at_path_end}
 use Rattle.leg_grammar.specs.Def.Wiring.{path_at}
 use Rattle.leg_grammar.specs.Def.Parts.{net_scope}
 use Rattle.leg_output.specs.Names.{layer_name}
-use Rattle.leg_rules.specs.Names.{design_via, via_name}
+use Rattle.leg_design_records.specs.Names.{design_via, via_name}
 use Rattle.leg_output.specs.Text.Wires.{width_words, point_words, given_extension, segment_words, wire_words, via_wire_words, patch_words, lower_layer_of_via}
 use Rattle.leg_print_laws.proofs.NumberedNames.{found, name_is}
 use Rattle.leg_print_laws.proofs.Tracks.{layer_named}

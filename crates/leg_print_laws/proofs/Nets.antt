@@ -26,7 +26,8 @@ use Rattle.leg_grammar.specs.Def.Parts.{net_scope}
 use Rattle.leg_design_nets.proofs.NetEntries.{net_entry_shortens}
 use Rattle.leg_output.specs.Text.Clauses.{clause_words, kept_clause}
 use Rattle.leg_output.specs.Text.Nets.{terminal_words, net_head, wiring_lines, net_said, net_words, net_text, wire_line}
-use Rattle.leg_output.specs.Text.Whole.{net_section, nets_text}
+use Rattle.leg_output.specs.Text.Whole.{nets_text}
+use Rattle.leg_design_records.specs.Names.{net_section}
 use Rattle.leg_print_laws.proofs.Tests.{room_is, not_above}
 use Rattle.leg_print_laws.specs.PrintedNames.{StayOne, kept_words, terminal_names, wire_names, net_entry_names}
 use Rattle.leg_print_laws.specs.Forms.{DenotesForm}

@@ -17,7 +17,7 @@ use Rattle.leg_output.specs.Text.Components.{component_words}
 use Rattle.leg_output.specs.Text.Pins.{pin_words}
 use Rattle.leg_output.specs.Text.Blockages.{blockage_words}
 use Rattle.leg_output.specs.Text.Nets.{net_words}
-use Rattle.leg_output.specs.Text.Whole.{net_section}
+use Rattle.leg_design_records.specs.Names.{net_section}
 use Rattle.leg_print_laws.proofs.Tests.{not_above}
 use Rattle.leg_print_laws.specs.PrintedNames.{StayOne, via_entry_names, component_entry_names, pin_entry_names, net_entry_names}
 use Rattle.leg_print_laws.proofs.Vias.{vias_again}

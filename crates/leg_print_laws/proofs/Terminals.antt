@@ -25,8 +25,7 @@ use Rattle.leg_design_records.proofs.SameTerminal.{passes_from, among_contains}
 use Rattle.leg_grammar.specs.Def.Terminal.{one_terminal_at, past_synthesized, terminals_at, is_of_other_net, add_terminal, terminal_form, at_no_terminal}
 use Rattle.leg_grammar.specs.Def.Parts.{net_scope}
 use Rattle.leg_design_nets.proofs.NetEntries.{terminal_form_shortens}
-use Rattle.leg_output.specs.Names.{component_pin_name}
-use Rattle.leg_rules.specs.Names.{component_name, design_pin_name}
+use Rattle.leg_design_records.specs.Names.{component_pin_name, component_name, design_pin_name}
 use Rattle.leg_output.specs.Text.Nets.{terminal_words}
 use Rattle.leg_print_laws.specs.PrintedNames.{StayOne, terminal_names}
 use Rattle.leg_print_laws.proofs.FreeWords.{AreFree, free_literal, free_name, free_nil, free_cons}
@@ -149,10 +148,6 @@ module _ (design : DesignModel) (sound : IsSound design.library) (components : A
   unfolding terminal_form over add_terminal
   form_again before t rest is new own = rw (terminal_again design sound components pins special t rest is, own, new) refl
 
-  goes_on : (t : Terminal) (rest : Words) → at_no_terminal (terminal_words design t ++ rest) ≡ false
-  goes_on (Comp c k) rest = refl
-  goes_on (Pin p) rest = refl
-
   pub terminals_again : (terminals : List Terminal) (last : Words) → All (IsTerminal design) terminals → AllPairs (λ t u. t ≢ u) terminals
       → ((net : NetModel) (t : Terminal) → Contains nets net → Contains net.terminals t → Contains terminals t → net.name ≡ name) → at_no_terminal last ≡ true
       → until at_no_terminal (terminal_form (net_scope design) special name nets) [] (flat_map (terminal_words design) terminals ++ last) ≡ Some
@@ -161,7 +156,7 @@ module _ (design : DesignModel) (sound : IsSound design.library) (components : A
       all_again at_no_terminal (terminal_form (net_scope design) special name nets) (terminal_words design) (λ ts. ts) last
       (terminal_form_shortens (net_scope design) special name nets) ends [] terminals
       (λ before t after is. record {
-        goes = goes_on t _;
+        goes = refl;
         read = form_again before t _ (middle (IsTerminal design) terminals before t after is each)
             (once_before before t after (subst (AllPairs (λ t u. t ≢ u)) is once))
             (no_other_net name t nets (λ net there lists. own net t there lists

@@ -28,7 +28,8 @@ use Rattle.leg_output.specs.Text.Pins.{pin_words}
 use Rattle.leg_output.specs.Text.Blockages.{blockage_words}
 use Rattle.leg_output.specs.Text.Nets.{net_words}
 use Rattle.leg_output.specs.Text.Sections.{end_words, section_text}
-use Rattle.leg_output.specs.Text.Whole.{rows_text, tracks_text, vias_text, components_text, pins_text, blockages_text, nets_text, net_section, design_text}
+use Rattle.leg_output.specs.Text.Whole.{rows_text, tracks_text, vias_text, components_text, pins_text, blockages_text, nets_text, design_text}
+use Rattle.leg_design_records.specs.Names.{net_section}
 use Rattle.leg_print_laws.specs.Forms.{WordsDenote}
 use Rattle.leg_print_laws.specs.PrintedNames.{StayOne, kept_words, row_names, track_names, via_entry_names, component_entry_names, pin_entry_names, blockage_entry_names, net_entry_names, printed_names}
 use Rattle.leg_print_laws.proofs.FreeWords.{IsFree, free_literal, free_word, free_nil, free_cons}

@@ -20,7 +20,7 @@ use Rattle.leg_grammar.specs.Def.PathItem.{at_path_end}
 use Rattle.leg_grammar.specs.Def.Wiring.{at_no_new, new_path, paths_at, wiring_start, wiring_at}
 use Rattle.leg_grammar.specs.Def.Parts.{net_scope}
 use Rattle.leg_output.specs.Names.{layer_name}
-use Rattle.leg_rules.specs.Names.{via_name}
+use Rattle.leg_design_records.specs.Names.{via_name}
 use Rattle.leg_output.specs.Text.Wires.{number_words, width_words, point_words, given_extension, wire_words, lower_layer_of_via}
 use Rattle.leg_output.specs.Text.Nets.{wiring_lines}
 use Rattle.leg_print_laws.specs.PrintedNames.{StayOne, wire_names}

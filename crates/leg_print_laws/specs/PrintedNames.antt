@@ -12,8 +12,8 @@ use Rattle.leg_design_records.specs.declared.records.Terminal.TheVariants.{Comp,
 use Rattle.leg_design_records.specs.declared.records.Wire.{Wire}
 use Rattle.leg_design_records.specs.declared.records.Wire.TheVariants.{Segment, ViaAt, Patch}
 use Rattle.leg_design_records.specs.Records.{DesignModel, TrackModel, PortModel, PinModel, BlockageModel, NetModel}
-use Rattle.leg_output.specs.Names.{layer_name, site_name, master_name, component_pin_name}
-use Rattle.leg_rules.specs.Names.{via_name, component_name, design_pin_name}
+use Rattle.leg_output.specs.Names.{layer_name, site_name, master_name}
+use Rattle.leg_design_records.specs.Names.{component_pin_name, via_name, component_name, design_pin_name}
 use Rattle.leg_output.specs.Text.Wires.{lower_layer_of_via}
 
 -- none of the words ends with `;`, but for the semicolon alone: such a word would be read as two

@@ -45,21 +45,25 @@ lines_line {text} {words} word one behind = record {
 }
 
 -- the same with a semicolon behind a blank before the line feed
-pub lines_statement : {text : List ℕ} {words : Words} (word : List ℕ) → IsOne word → Behind text words → Lines (word ++ text ++ codes " ;\n") (word ∷ (words ++ codes ";" ∷ []))
+pub lines_statement : {text : List ℕ} {words : Words} (word : List ℕ) → IsOne word → Behind text words
+    → Lines (word ++ text ++ codes " ;\n") (word ∷ (words ++ codes ";" ∷ []))
 lines_statement {text} {words} word one behind =
     let ended : Behind (text ++ codes " ;") (words ++ codes ";" ∷ []) = behind_append behind (behind_word (codes ";") (printable_is_one (codes ";") refl)) in
     let whole : Lines (word ++ (text ++ codes " ;") ++ 10 ∷ []) (word ∷ (words ++ codes ";" ∷ [])) = lines_line word one ended in
     subst (λ t. Lines t (word ∷ (words ++ codes ";" ∷ [])))
-    (append_assoc word (text ++ codes " ;") (10 ∷ []) ∙ ap (λ t. word ++ t) (append_assoc text (codes " ;") (10 ∷ [])) ∙ sym (append_assoc word text (codes " ;\n"))) whole
+    (append_assoc word (text ++ codes " ;") (10 ∷ []) ∙ ap (λ t. word ++ t) (append_assoc text (codes " ;") (10 ∷ []))
+    ∙ sym (append_assoc word text (codes " ;\n"))) whole
 
 -- Further lines of an entry begin with two blanks, which are no words.
 further_line : (words : Words) → list_all is_printable words ≡ true → Behind (codes "\n " ++ spaced words) words
 further_line words all = behind_append (behind_append (behind_white 10 refl) (behind_white 32 refl)) (behind_spaced words all)
 
-pub further_lines : (lines : List Words) → list_all is_printable (words_in_lines lines) ≡ true → Behind (flat_map (λ words. codes "\n " ++ spaced words) lines) (words_in_lines lines)
+pub further_lines : (lines : List Words) → list_all is_printable (words_in_lines lines) ≡ true
+    → Behind (flat_map (λ words. codes "\n " ++ spaced words) lines) (words_in_lines lines)
 further_lines [] all = behind_nil
 further_lines (words ∷ lines) all = by (further_lines lines) (list_all is_printable words) (list_all is_printable (words_in_lines lines)) refl refl where
-  by : (list_all is_printable (words_in_lines lines) ≡ true → Behind (flat_map (λ words. codes "\n " ++ spaced words) lines) (words_in_lines lines)) → (here others : Bool) → list_all is_printable words ≡ here → list_all is_printable (words_in_lines lines) ≡ others
+  by : (list_all is_printable (words_in_lines lines) ≡ true → Behind (flat_map (λ words. codes "\n " ++ spaced words) lines) (words_in_lines lines))
+      → (here others : Bool) → list_all is_printable words ≡ here → list_all is_printable (words_in_lines lines) ≡ others
       → Behind (flat_map (λ words. codes "\n " ++ spaced words) (words ∷ lines)) (words_in_lines (words ∷ lines))
   by later true true first rest = behind_append (further_line words first) (later rest)
   by later true false first rest = absurd (false≢true (rw (list_all-append is_printable words (words_in_lines lines), first, rest) at all))

@@ -25,11 +25,15 @@ ended words text =
     ∙ sym (append_assoc text (spaced (words ++ codes ";" ∷ [])) (codes "\n"))
 
 -- a first word, words behind it, and the end of a statement are a line
-pub statement_pushed : (start first front all : List ℕ) (word : List ℕ) (v : Words) → first ≡ start ++ word → front ≡ first ++ spaced v → all ≡ front ++ codes " ;\n" → all ≡ start ++ line (word ∷ (v ++ codes ";" ∷ []))
+pub statement_pushed : (start first front all : List ℕ) (word : List ℕ) (v : Words) → first ≡ start ++ word → front ≡ first ++ spaced v
+    → all ≡ front ++ codes " ;\n" → all ≡ start ++ line (word ∷ (v ++ codes ";" ∷ []))
 statement_pushed start first front all word v one words end =
-    end ∙ ap (λ t. t ++ codes " ;\n") words ∙ ended v first ∙ ap (λ t. t ++ spaced (v ++ codes ";" ∷ []) ++ codes "\n") one ∙ shuffle start word (spaced (v ++ codes ";" ∷ [])) (codes "\n")
+    end ∙ ap (λ t. t ++ codes " ;\n") words ∙ ended v first ∙ ap (λ t. t ++ spaced (v ++ codes ";" ∷ []) ++ codes "\n") one
+    ∙ shuffle start word (spaced (v ++ codes ";" ∷ [])) (codes "\n")
 
 -- the same with two runs of words
-pub line_pushed : (start first front back all : List ℕ) (word : List ℕ) (v w : Words) → first ≡ start ++ word → front ≡ first ++ spaced v → back ≡ front ++ spaced w → all ≡ back ++ codes " ;\n" → all ≡ start ++ line (word ∷ (v ++ w ++ codes ";" ∷ []))
+pub line_pushed : (start first front back all : List ℕ) (word : List ℕ) (v w : Words) → first ≡ start ++ word → front ≡ first ++ spaced v
+    → back ≡ front ++ spaced w → all ≡ back ++ codes " ;\n"
+    → all ≡ start ++ line (word ∷ (v ++ w ++ codes ";" ∷ []))
 line_pushed start first front back all word v w one words more end =
     statement_pushed start first back all word (v ++ w) one (push_more first front back v w words more) end

@@ -7,4 +7,7 @@
 pub mod laws;
 mod word_text;
 
-pub use word_text::{push_end, push_first, push_line_feed, push_number, push_word, push_words};
+pub use word_text::{
+    push_count, push_decimal, push_end, push_first, push_line_feed, push_number, push_parts,
+    push_word, push_words,
+};

@@ -75,7 +75,7 @@ module _ (grid : GridModel) (net : ℕ) (before after : FlatModel) (kept : (shap
   wire_before : (wire : Wire) → IsOpenWire grid.design after net wire → IsOpenWire grid.design before net wire
   wire_before wire is_open metal rect there points =
       let clean = is_open metal rect there points in
-      record { no_short = λ s has. clean.no_short s (kept s has); far = λ s has. clean.far s (kept s has) }
+      record { far = λ s has. clean.far s (kept s has) }
 
   pub node_before : (n : ℕ) → IsOpenSlot grid after net n → IsOpenSlot grid before net n
   node_before n one =

@@ -120,7 +120,8 @@ fn push_ends<A: Allocator + Copy>(
     requires within { All (λ n. n < slot_total grid.now) slots.now }
     requires boxes { All (IsBoxOf grid.now) boxes.now }
     requires hulls { AreHulls boxes.now hulls.now }
-    ensures { OnOk result (HaveGotSlotEnds grid.now (IsNodeAdmitted table.now net) firsts.now boxes.now piece slots.now list.old.ends.items list.new.ends.items) }
+    ensures { OnOk result (HaveGotSlotEnds grid.now (IsNodeAdmitted table.now net) firsts.now boxes.now piece slots.now
+        list.old.ends.items list.new.ends.items) }
 {
     for slot in slots {
         if !list.passes_over(table, net, firsts, piece, *slot) {
@@ -153,7 +154,8 @@ fn add_ends<A: Allocator + Copy>(
     requires first { piece < length firsts.now }
     requires boxes { All (IsBoxOf grid.now) boxes.now }
     requires hulls { AreHulls boxes.now hulls.now }
-    ensures { OnOk result (HaveGotEnds grid.now (IsNodeAdmitted table.now net) firsts.now boxes.now piece layer rect.now list.old.ends.items list.new.ends.items) }
+    ensures { OnOk result (HaveGotEnds grid.now (IsNodeAdmitted table.now net) firsts.now boxes.now piece layer rect.now
+        list.old.ends.items list.new.ends.items) }
 {
     let mut found = BoxedSlots::new(alloc);
     add_slots_in(grid, layer, rect, &mut found)?;

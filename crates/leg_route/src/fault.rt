@@ -2,8 +2,9 @@
 
 ghost use Rattle.std.specs.Prelude.{◌≡◌};
 ghost use Rattle.leg_route.specs.declared.fault.RouteFault.TheVariants.{Memory};
-ghost use Rattle.leg_route.specs.Refusal.{of_flat, of_grid};
+ghost use Rattle.leg_route.specs.Refusal.{of_clean_flat, of_flat, of_grid};
 
+use leg_check::CleanFlatFault;
 use leg_design_records::Fault;
 use leg_flat::FlatFault;
 use leg_lib_records::Items;
@@ -60,6 +61,17 @@ impl<A: Allocator> From<GridFault> for RouteFault<A> {
         match fault {
             GridFault::TooLarge => RouteFault::GridTooLarge,
             GridFault::Memory => RouteFault::Memory,
+        }
+    }
+}
+
+impl<A: Allocator> From<CleanFlatFault<A>> for RouteFault<A> {
+    ghost from_gives = { λ f e. e ≡ of_clean_flat f };
+
+    fn from(fault: CleanFlatFault<A>) -> RouteFault<A> {
+        match fault {
+            CleanFlatFault::NoFlat(fault) => RouteFault::from(fault),
+            CleanFlatFault::NotClean(faults) => RouteFault::NotClean(faults),
         }
     }
 }

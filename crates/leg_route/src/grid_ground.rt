@@ -1,14 +1,12 @@
 //! The grid of a design as the router's ground.
 
-ghost use Rattle.std.specs.Prelude.{◌≡◌, ◌↔◌, ◌-◌, ◌++◌, ℕ, option_map, List, IsTrue, false, length, Contains, IfOk, IfErr, OnOk};
+ghost use Rattle.std.specs.Prelude.{◌≡◌, ◌-◌, ◌++◌, ℕ, option_map, IfOk, IfErr, OnOk};
 ghost use Rattle.std.specs.List.{range_with_len};
 ghost use Rattle.leg_design_records.specs.Records.{DesignModel};
-ghost use Rattle.leg_rules.specs.declared.shape.Shape.{Shape};
 ghost use Rattle.leg_rules.specs.Metal.Flat.{FlatModel};
 ghost use Rattle.leg_rules.specs.Joins.Violations.{IsOpenNet};
 ghost use Rattle.leg_route.specs.Steps.NextWires.{IsNextAnswer, IsNextStep};
 ghost use Rattle.leg_flat.specs.Limits.{IsWithinLimits};
-ghost use Rattle.leg_route_grid.specs.Steps.Grid.{slot_total};
 ghost use Rattle.leg_rules.specs.Legal.{IsCleanIn};
 ghost use Rattle.leg_route.specs.Refusal.{IsRouteRefusal};
 ghost use Rattle.leg_rules.specs.Route.Refusal.{ComesToRun};

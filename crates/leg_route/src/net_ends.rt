@@ -1,7 +1,7 @@
 //! What is kept of the slots at which walks of a net end: those that may be near to the joined part one by one, and the others in
 //! groups, so that a walk does not cost a look at each.
 
-ghost use Rattle.std.specs.Prelude.{◌≡◌, ◌+◌, ◌<◌, ◌≤◌, [], length, All, Contains, IfOk, OnOk};
+ghost use Rattle.std.specs.Prelude.{◌≡◌, ◌+◌, ◌<◌, ◌≤◌, length, All, Contains, IfOk, OnOk};
 ghost use Rattle.leg_route_grid.specs.declared.slot.Slot.{Slot};
 ghost use Rattle.leg_route_grid.specs.Steps.Grid.{slot_total};
 ghost use Rattle.leg_route_grid.specs.Steps.Hulls.{AreHulls};

@@ -24,8 +24,10 @@ fn turns<A: Allocator + Copy, G: Ground<A>>(
     requires ready { G.IsReady ground.old }
     requires count { nets ≡ length (G.design ground.old).nets }
     requires within { IsWithinLimits (G.flat ground.old) }
-    ensures run { IfOk result (λ lists. IsRunSoFar (G.design ground.old) (G.flat ground.old) nets (map (λ wires. wires.items) lists.items) (G.flat ground.new)) }
-    ensures spelled { IfOk result (λ lists. All (λ wires. All (IsWire (G.design ground.old).library (G.design ground.old).vias false) wires.items) lists.items) }
+    ensures run { IfOk result
+        (λ lists. IsRunSoFar (G.design ground.old) (G.flat ground.old) nets (map (λ wires. wires.items) lists.items) (G.flat ground.new)) }
+    ensures spelled { IfOk result
+        (λ lists. All (λ wires. All (IsWire (G.design ground.old).library (G.design ground.old).vias false) wires.items) lists.items) }
     ensures within { OnOk result (IsWithinLimits (G.flat ground.new)) }
     ensures ready { OnOk result (G.IsReady ground.new) }
     ensures stop { IfErr result (λ fault. IsRunStop (G.design ground.old) (G.flat ground.old) fault) }
@@ -54,7 +56,8 @@ pub(crate) fn route_nets<A: Allocator + Copy, G: Ground<A>>(
     requires comes { ComesToRun (G.design ground.old) (G.flat ground.old) }
     requires within { IsWithinLimits (G.flat ground.old) }
     ensures run { IfOk result (λ lists. IsFinishedRun (G.design ground.old) (map (λ wires. wires.items) lists.items)) }
-    ensures spelled { IfOk result (λ lists. All (λ wires. All (IsWire (G.design ground.old).library (G.design ground.old).vias false) wires.items) lists.items) }
+    ensures spelled { IfOk result
+        (λ lists. All (λ wires. All (IsWire (G.design ground.old).library (G.design ground.old).vias false) wires.items) lists.items) }
     ensures refused { IfErr result (λ fault. IsRouteRefusal (G.design ground.old) fault) }
     ensures same_design { G.design ground.new ≡ G.design ground.old }
 {

@@ -1,6 +1,6 @@
 //! The wires of a shortest open walk from the joined part of a net to the rest.
 
-ghost use Rattle.std.specs.Prelude.{◌≡◌, ◌↔◌, ◌<◌, ◌^◌, ℕ, [], IsTrue, map, All, Contains, length, IfOk, OnOk, IfSome};
+ghost use Rattle.std.specs.Prelude.{◌≡◌, ◌↔◌, ◌<◌, ℕ, IsTrue, map, All, Contains, length, IfOk, OnOk, IfSome};
 ghost use Rattle.std.specs.Option.{option_map};
 ghost use Rattle.leg_wire.specs.NetShapes.{AreNumbersOf};
 ghost use Rattle.leg_wire.specs.PieceMarks.{AreMarks};

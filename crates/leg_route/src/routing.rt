@@ -11,11 +11,11 @@ ghost use Rattle.leg_rules.specs.Route.Result.{IsRouted};
 ghost use Rattle.leg_route.specs.Refusal.{IsRouteRefusal};
 ghost use Rattle.leg_route.specs.Steps.RunEnd.{IsFinishedRun};
 
-use crate::clean_flat::clean_flat;
 use crate::fault::RouteFault;
 use crate::finish::finish;
 use crate::grid_ground::GridGround;
 use crate::nets::route_nets;
+use leg_check::clean_flat;
 use leg_design_records::{Design, Wire};
 use leg_lib_records::Library;
 use std::alloc::Allocator;
@@ -49,7 +49,7 @@ pub fn route<'a, A: Allocator + Copy>(
     ensures unchanged { IfErr result (λ back. back.0 ≡ design.entry) }
     ensures refused { IfErr result (λ back. IsRouteRefusal design.entry back.1) }
 {
-    match wires_for(alloc, library, &design) {
+    match wires_for(alloc, &design) {
         Ok(lists) => finish(design, lists),
         Err(fault) => Err((design, fault)),
     }
@@ -58,15 +58,13 @@ pub fn route<'a, A: Allocator + Copy>(
 /// For each entry of `NETS` the wires that it gets until no net is open, in their order.
 fn wires_for<A: Allocator + Copy>(
     alloc: A,
-    library: &Library<'_, A>,
     design: &Design<'_, A>,
 ) -> Result<Vec<Vec<Wire, A>, A>, RouteFault<A>>
-    requires { library.now ≡ design.now.library }
     ensures run { IfOk result (λ lists. IsFinishedRun design.now (map (λ wires. wires.items) lists.items)) }
     ensures spelled { IfOk result (λ lists. All (λ wires. All (IsWire design.now.library design.now.vias false) wires.items) lists.items) }
     ensures refused { IfErr result (λ fault. IsRouteRefusal design.now fault) }
 {
-    let flat = clean_flat(alloc, library, design)?;
+    let flat = clean_flat(alloc, design)?;
     let mut ground = GridGround::new(alloc, design, flat)?;
     let lists = route_nets(alloc, &mut ground, design.nets().len() as u32)?;
     Ok(lists)

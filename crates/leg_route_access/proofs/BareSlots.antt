@@ -33,7 +33,7 @@ module _ (flat : FlatModel) (bare : flat.shapes ≡ []) where
   none_there s there = let has : Contains [] s = rw bare at there in absurd (omega (arith, has.1))
 
   bare_wire : (design : DesignModel) (net : ℕ) (wire : Wire) → IsOpenWire design flat net wire
-  bare_wire design net wire metal rect there points = record { no_short = λ s has. absurd (none_there s has); far = λ s has. absurd (none_there s has) }
+  bare_wire design net wire metal rect there points = record { far = λ s has. absurd (none_there s has) }
 
   module _ (grid : GridModel) (is_grid : IsDesignGrid grid) (n net : ℕ) where
     bare_node : (node : Node) → IsNumberOf grid n node → IsNode grid.design node → IsOneOf (IsNumberOf grid) (IsOpenNode grid.design flat net) n

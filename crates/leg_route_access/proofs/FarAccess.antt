@@ -147,7 +147,7 @@ module _ (grid : GridModel) (is_grid : IsDesignGrid grid) (sound : IsSound grid.
 module _ (grid : GridModel) (is_grid : IsDesignGrid grid) (sound : IsSound grid.design.library) (shape : Shape) (n k j i : ℕ) (slot : IsSlot grid n k j i)
     (reach : Option ℤ) (reaches : ReachesMetal grid k shape.layer reach)
     (along_x along_y : Bool) (along : AreAlong grid k shape.layer along_x along_y)
-    (past : IsSlotPast grid along_x along_y j i shape.rect reach (clear_at grid.design.library.layers shape.layer)) (flat : FlatModel) (net : ℕ) where
+    (past : IsSlotPast grid along_x along_y j i shape.rect reach (clear_at grid.design.library shape.layer)) (flat : FlatModel) (net : ℕ) where
   east_wire : (step : IsOpenStepAt grid flat net East n) → IsOpenWire grid.design (alone shape) net step.is_open.wire
   east_wire step = elim (cases_eq step.a.layer shape.layer) [
     | inl same ↦

@@ -1,5 +1,5 @@
--- Metal that lies farther from a shape than the spacing is clean beside it.
-use Rattle.std.proofs.Common.{◌≡◌, ℕ, ◌+◌, ◌-◌, ◌*◌, ◌<◌, ◌≤◌, ◌⊎◌, inl, inr, ℤ, pos, ◌+ℤ◌, ◌<ℤ◌, unsigned_abs, Some, slice_get, sym, ap, subst, ◌∙◌, arith}
+-- Metal that lies farther from a shape than the greatest spacing on its layer is clean beside it.
+use Rattle.std.proofs.Common.{◌≡◌, ℕ, ◌+◌, ◌*◌, ◌<◌, ◌≤◌, ◌⊎◌, inl, inr, ℤ, pos, ◌+ℤ◌, ◌<ℤ◌, sym, ap, subst, arith}
 use Rattle.std.proofs.lemmas.Int.{ints}
 use Rattle.std.proofs.Math.Nat.{mul-le-mul}
 use Rattle.leg_lemmas.proofs.Places.{the_only}
@@ -8,8 +8,9 @@ use Rattle.leg_geom.specs.Gap.{apart, square_distance}
 use Rattle.leg_lib_records.specs.Records.{LibraryModel}
 use Rattle.leg_rules.specs.declared.shape.Shape.{Shape}
 use Rattle.leg_wire_spacing.specs.Access.{alone}
+use Rattle.leg_rules.specs.Spacing.RequiredSpacing.{greatest_spacing_on}
+use Rattle.leg_rules.specs.Spacing.Closer.{AreCloserThan}
 use Rattle.leg_rules.specs.Spacing.Clean.{net_metal, IsClean}
-use Rattle.leg_rules.specs.Spacing.Violations.{AreShort, AreTooNear}
 use Rattle.leg_route_access.specs.Steps.Reaches.{clear_at}
 
 -- the numbers are farther apart than this
@@ -41,27 +42,23 @@ not_itself distance p (inr (inr y)) = omega (arith, ints, y)
 
 module _ (library : LibraryModel) (shape : Shape) where
   abbrev clear : ℕ
-  clear = clear_at library.layers shape.layer
+  clear = clear_at library shape.layer
 
   abbrev IsFar : ℕ → RectModel → Type 0
   IsFar layer rect = layer ≡ shape.layer → (p q : PointModel) → HasPoint rect p → HasPoint shape.rect q → AreBeyond clear p q
 
-  not_short : (net layer : ℕ) (rect : RectModel) → IsFar layer rect → AreShort (net_metal net layer rect) shape → ⊥
-  not_short net layer rect far short =
-      not_itself clear short.shared.point (far short.comparable.layer short.shared.point short.shared.point short.shared.in_a short.shared.in_b)
-
-  not_too_near : (net layer : ℕ) (rect : RectModel) → IsFar layer rect → AreTooNear library (net_metal net layer rect) shape → ⊥
-  not_too_near net layer rect far too_near =
-      let near = too_near.near in
-      let there : slice_get library.layers shape.layer ≡ Some too_near.layer = ap (slice_get library.layers) (sym too_near.comparable.layer) ∙ too_near.there in
-      let beyond : AreBeyond (unsigned_abs too_near.layer.spacing - 1) near.p near.q =
-      rw there at (far too_near.comparable.layer near.p near.q near.in_a near.in_b) in
-      not_near (unsigned_abs too_near.layer.spacing - 1) (unsigned_abs too_near.layer.spacing) (omega arith) near.p near.q beyond near.near
+  not_closer : (net layer : ℕ) (rect : RectModel) → IsFar layer rect → ¬ AreCloserThan (greatest_spacing_on library layer) (net_metal net layer rect) shape
+  not_closer net layer rect far closer =
+      let here = closer.comparable.layer in
+      let same : greatest_spacing_on library layer ≡ greatest_spacing_on library shape.layer = ap (greatest_spacing_on library) here in
+      elim closer.close [
+        | inl shared ↦ not_itself clear shared.point (far here shared.point shared.point shared.in_a shared.in_b)
+        | inr near ↦
+            not_near clear (greatest_spacing_on library layer) (omega (arith, same)) near.p near.q (far here near.p near.q near.in_a near.in_b) near.near
+      ]
 
   pub far_is_clean : (net layer : ℕ) (rect : RectModel) → IsFar layer rect → IsClean library (alone shape) net layer rect
   far_is_clean net layer rect far = record {
-    no_short = λ s there short. let P : Shape → Type 0 = λ s. AreShort (net_metal net layer rect) s in
-        not_short net layer rect far (subst P (sym (the_only shape s there)) short);
-    far = λ s there near. let P : Shape → Type 0 = λ s. AreTooNear library (net_metal net layer rect) s in
-        not_too_near net layer rect far (subst P (sym (the_only shape s there)) near);
+    far = λ s there closer. let P : Shape → Type 0 = λ s. AreCloserThan (greatest_spacing_on library layer) (net_metal net layer rect) s in
+        not_closer net layer rect far (subst P (sym (the_only shape s there)) closer);
   }

@@ -151,7 +151,7 @@ past_beyond values along i z1 z2 reach distance low high p q (inr behind) there 
 module _ (grid : GridModel) (along_x along_y : Bool) (j i : ℕ) (shape : Shape) (low high : PointModel)
     (are_ends : AreEnds grid along_x along_y j i low high) where
   abbrev distance : ℕ
-  distance = clear_at grid.design.library.layers shape.layer
+  distance = clear_at grid.design.library shape.layer
 
   points_beyond : (reach : Option ℤ) → IsSlotPast grid along_x along_y j i shape.rect reach distance → (Holds : PointModel → Type 0)
       → AreAround reach low high Holds → (p q : PointModel) → Holds p → HasPoint shape.rect q → AreBeyond distance p q

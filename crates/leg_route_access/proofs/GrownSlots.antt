@@ -61,10 +61,8 @@ module _ (design : DesignModel) (shape : Shape) (flat grown : FlatModel) (has : 
 
   clean_grown : (layer : ℕ) (rect : RectModel) → IsClean design.library flat net layer rect → IsClean design.library (alone shape) net layer rect
       → IsClean design.library grown net layer rect
-  clean_grown layer rect here beside = record {
-    no_short = λ s there. elim (in_grown s there) [ inl old ↦ here.no_short s old | inr new ↦ beside.no_short s (only s new) ];
-    far = λ s there. elim (in_grown s there) [ inl old ↦ here.far s old | inr new ↦ beside.far s (only s new) ];
-  }
+  clean_grown layer rect here beside =
+      record { far = λ s there. elim (in_grown s there) [ inl old ↦ here.far s old | inr new ↦ beside.far s (only s new) ] }
 
   wire_grown : (wire : Wire) → IsOpenWire design flat net wire → IsOpenWire design (alone shape) net wire → IsOpenWire design grown net wire
   wire_grown wire here beside metal rect there points = clean_grown metal.layer rect (here metal rect there points) (beside metal rect there points)
@@ -72,12 +70,12 @@ module _ (design : DesignModel) (shape : Shape) (flat grown : FlatModel) (has : 
   wire_flat : (wire : Wire) → IsOpenWire design grown net wire → IsOpenWire design flat net wire
   wire_flat wire is_open metal rect there points =
       let clean = is_open metal rect there points in
-      record { no_short = λ s has. clean.no_short s (from_flat s has); far = λ s has. clean.far s (from_flat s has) }
+      record { far = λ s has. clean.far s (from_flat s has) }
 
   wire_alone : (wire : Wire) → IsOpenWire design grown net wire → IsOpenWire design (alone shape) net wire
   wire_alone wire is_open metal rect there points =
       let clean = is_open metal rect there points in
-      record { no_short = λ s has. clean.no_short s (from_shape s has); far = λ s has. clean.far s (from_shape s has) }
+      record { far = λ s has. clean.far s (from_shape s has) }
 
   node_grown : (node : Node) → IsOpenNode design grown net node ↔ (IsOpenNode design flat net node × IsOpenNode design (alone shape) net node)
   node_grown node = (
@@ -112,7 +110,7 @@ wire_only : (design : DesignModel) (shape : Shape) (flat : FlatModel) → Contai
     → IsOpenWire design (alone shape) net wire
 wire_only design shape flat there net wire is_open metal rect has points =
     let clean = is_open metal rect has points in
-    record { no_short = λ s only. clean.no_short s (one s only); far = λ s only. clean.far s (one s only) } where
+    record { far = λ s only. clean.far s (one s only) } where
       one : (s : Shape) → Contains (shape ∷ []) s → Contains flat.shapes s
       one s only = elim (Contains-push_cases [] shape s only) [ inl none ↦ absurd (omega (arith, none.1)) | inr same ↦ rw (← same) there ]
 

@@ -9,7 +9,7 @@ use Rattle.leg_lex.specs.Number.{IsNumber}
 use Rattle.leg_geom.specs.Plane.{RectModel, IsCoordinate}
 use Rattle.leg_lib_records.specs.declared.records.Shape.{Shape}
 use Rattle.leg_route_access.specs.Steps.Reaches.{one_if, IsDistance, IsFar, IsReach, ReachesAll, IsWider, ReachesShape}
-use Rattle.leg_route_grid.specs.Steps.Places.{ArePlaces}
+use Rattle.leg_geom.specs.Line.{ArePlaces}
 use Rattle.leg_route_access.specs.Steps.AccessUpdates.{ArePlacesNear}
 
 -- what reaches so far reaches as far where the reach is wider

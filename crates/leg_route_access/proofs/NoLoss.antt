@@ -37,18 +37,12 @@ owns Blocked owner net settled admits = absurd admits
 
 module _ (library : LibraryModel) (shape : Shape) (net : ℕ) where
   own_is_clean : (layer : ℕ) (rect : RectModel) → shape.owner ≡ Net net → IsClean library (alone shape) net layer rect
-  own_is_clean layer rect own = record {
-    no_short = λ s there short. short.comparable.owners (owner_of s there);
-    far = λ s there near. near.comparable.owners (owner_of s there);
-  } where
+  own_is_clean layer rect own = record { far = λ s there closer. closer.comparable.owners (owner_of s there) } where
     owner_of : (s : Shape) → Contains (shape ∷ []) s → Net net ≡ s.owner
     owner_of s there = sym own ∙ ap (λ (s : Shape). s.owner) (the_only shape s there)
 
   elsewhere_is_clean : (layer : ℕ) (rect : RectModel) → layer ≢ shape.layer → IsClean library (alone shape) net layer rect
-  elsewhere_is_clean layer rect other = record {
-    no_short = λ s there short. other (short.comparable.layer ∙ layer_of s there);
-    far = λ s there near. other (near.comparable.layer ∙ layer_of s there);
-  } where
+  elsewhere_is_clean layer rect other = record { far = λ s there closer. other (closer.comparable.layer ∙ layer_of s there) } where
     layer_of : (s : Shape) → Contains (shape ∷ []) s → s.layer ≡ shape.layer
     layer_of s there = sym (ap (λ (s : Shape). s.layer) (the_only shape s there))
 

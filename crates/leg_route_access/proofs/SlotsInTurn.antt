@@ -106,7 +106,7 @@ module _ (grid : GridModel) (shape : Shape) where
   module _ (is_grid : IsDesignGrid grid) (sound : IsSound grid.design.library) (k : ℕ) (reach : Option ℤ) (reaches : ReachesMetal grid k shape.layer reach)
       (along_x along_y : Bool) (along : AreAlong grid k shape.layer along_x along_y) where
     abbrev distance : ℕ
-    distance = clear_at grid.design.library.layers shape.layer
+    distance = clear_at grid.design.library shape.layer
 
     far_told : (before after : List SlotAccess) (n j i : ℕ) → IsSlot grid n k j i → IsSlotPast grid along_x along_y j i shape.rect reach distance
         → slice_get after n ≡ slice_get before n → IsAccessAfter grid shape n before after

@@ -6,13 +6,13 @@ use Rattle.leg_geom.specs.Plane.{PointModel, RectModel, HasPoint}
 use Rattle.leg_lib_records.specs.Sound.{IsWidth}
 use Rattle.leg_lib_records.specs.Records.{LibraryModel}
 use Rattle.leg_design_records.specs.Records.{DesignModel}
-use Rattle.leg_rules.specs.declared.shape.Shape.{Shape}
 use Rattle.leg_rules.specs.Metal.Outline.{Outline, HasPointOf}
 use Rattle.leg_rules.specs.Metal.Metal.{OnLayer}
 use Rattle.leg_rules.specs.Metal.Flat.{FlatModel}
-use Rattle.leg_rules.specs.Spacing.Comparable.{AreComparable}
-use Rattle.leg_rules.specs.Spacing.Clean.{net_metal, IsClean}
+use Rattle.leg_rules.specs.Spacing.RequiredSpacing.{greatest_spacing_on}
+use Rattle.leg_rules.specs.Spacing.Clean.{IsClean}
 use Rattle.leg_rules.specs.Route.StepWires.{half}
+use Rattle.leg_wire_spacing.proofs.CloserShapes.{close_at_point}
 
 -- half of a width is above 0, and is a number that a DEF may have
 pub record IsHalf (h : ℤ) : Type 0 where
@@ -33,27 +33,10 @@ half_is (negsuc a) is = absurd (let above = is.above in let e : ⊥ = omega (ari
 pub clean_within : (library : LibraryModel) (flat : FlatModel) (net layer : ℕ) (rect r : RectModel) → ((p : PointModel) → HasPoint r p → HasPoint rect p)
     → IsClean library flat net layer rect → IsClean library flat net layer r
 clean_within library flat net layer rect r within clean = record {
-  no_short =
-      λ shape has short. clean.no_short shape has (record {
-        comparable = comparable shape short.comparable;
-        shared = record { point = short.shared.point; in_a = within short.shared.point short.shared.in_a; in_b = short.shared.in_b };
-      });
-  far = λ shape has near. clean.far shape has (record {
-    comparable = comparable shape near.comparable;
-    apart = λ shared. clean.no_short shape has (record { comparable = comparable shape near.comparable; shared = shared });
-    layer = near.layer;
-    there = near.there;
-    near = record { p = near.near.p; q = near.near.q; in_a = within near.near.p near.near.in_a; in_b = near.near.in_b; near = near.near.near };
-  });
-} where
-  comparable : (shape : Shape) → AreComparable (net_metal net layer r) shape → AreComparable (net_metal net layer rect) shape
-  comparable shape is =
-      record {
-        layer = is.layer;
-        owners = is.owners;
-        apart = λ one. is.apart (record { component = one.component; of_a = one.of_a; of_b = one.of_b });
-        metal = is.metal;
-      }
+  far = λ shape has closer.
+      let at = close_at_point (greatest_spacing_on library layer) net layer r shape closer in
+      clean.far shape has (at.as_close rect (within at.p at.inside));
+}
 
 -- metal of one outline, which has the points of a rectangle
 module _ (design : DesignModel) (flat : FlatModel) (net layer : ℕ) (outline : Outline) (rect : RectModel)

@@ -17,9 +17,9 @@ use crate::open_step::next_along;
 use crate::reach::{far_on, layers_near, reach_on};
 use crate::slot_access::{SlotAccess, slot_beside};
 use leg_design_records::Design;
-use leg_geom::Rect;
+use leg_geom::places_within;
 use leg_lib_records::Direction;
-use leg_route_grid::{Grid, RoutingLayer, Slot, grid_is_sound, places_within};
+use leg_route_grid::{Grid, RoutingLayer, Slot, grid_is_sound};
 use leg_route_search::Side;
 use leg_rules::Shape;
 use leg_wire_spacing::Access;
@@ -136,7 +136,7 @@ fn is_same(a: &Shape, b: &Shape) -> bool
     ensures { IsTrue result ↔ AreSame a.now b.now }
 {
     a.layer == b.layer
-        && are_same(&a.rect, &b.rect)
+        && a.rect.is(&b.rect)
         && a.owner == b.owner
         && are_same_numbers(a.component, b.component)
         && are_same_numbers(a.piece, b.piece)
@@ -147,14 +147,6 @@ fn are_same_numbers(a: Option<u32>, b: Option<u32>) -> bool
     ensures { IsTrue result ↔ a ≡ b }
 {
     a == b
-}
-
-/// Whether the rectangles are the same.
-#[tactic(auto, using(leg_geom::proofs::Points::sides_same))]
-fn are_same(a: &Rect, b: &Rect) -> bool
-    ensures { IsTrue result ↔ a.now ≡ b.now }
-{
-    *a == *b
 }
 
 /// The same where one more shape lies, after the others: the slots near it are computed anew, on the
@@ -168,7 +160,8 @@ pub fn add_shape<A: Allocator + Copy>(
     requires of_design { grid.now.design ≡ design.now }
     requires count { length slots.old ≡ slot_total grid.now }
     ensures count { length slots.new ≡ length slots.old }
-    ensures told { (flat grown : FlatModel) → grown.shapes ≡ flat.shapes ++ shape.now ∷ [] → IsAccessTable grid.now flat slots.old → IsAccessTable grid.now grown slots.new }
+    ensures told { (flat grown : FlatModel) → grown.shapes ≡ flat.shapes ++ shape.now ∷ []
+        → IsAccessTable grid.now flat slots.old → IsAccessTable grid.now grown slots.new }
 {
     grid_is_sound(grid);
     let (first, end) = layers_near(grid, shape.layer);
@@ -204,7 +197,7 @@ fn add_on_layer<A: Allocator + Copy>(
     let own = grid.layer_at(k);
     let along_x = steps_along(own, shape.layer, Direction::Horizontal);
     let along_y = steps_along(own, shape.layer, Direction::Vertical);
-    let far = far_on(design.library().layers(), shape.layer, reach);
+    let far = far_on(design.library(), shape.layer, reach);
     let columns = places_near(grid.xs(), along_x, shape.rect.x1(), shape.rect.x2(), far);
     let rows = places_near(grid.ys(), along_y, shape.rect.y1(), shape.rect.y2(), far);
     let on_layer = own.number == shape.layer;

@@ -24,30 +24,37 @@ ghost use Rattle.leg_route_grid.specs.Steps.NodeNumbers.{IsOneOf, IsStepOf, IsNo
 /// is open in the flat, and the numbers of the starts and of the ends are those of the slots at which walks of the net
 /// begin and end.
 pub fn searches_walk_as_numbers()
-    ensures shortest { (grid : GridModel) (origin around : List SlotBox) (flat : FlatModel) (slots : List SlotAccess) (net : ℕ) (starts finish numbers : List ℕ) → IsDesignGrid grid
-        → IsSound grid.design.library → IsAccessTable grid flat slots
-        → ((n : ℕ) → Contains starts n ↔ IsOneOf (IsNumberOf grid) (MeetsJoined flat net) n) → ((n : ℕ) → Contains finish n ↔ IsOneOf (IsNumberOf grid) (MeetsRest flat net) n)
-        → IsShortest (IsNodeAdmitted slots net) (IsStep (IsNeighbourNear grid origin around) (IsStepAdmitted grid slots net)) (Contains starts) (Contains finish) numbers
+    ensures shortest { (grid : GridModel) (origin around : List SlotBox) (flat : FlatModel) (slots : List SlotAccess) (net : ℕ) (starts finish numbers : List ℕ)
+        → IsDesignGrid grid → IsSound grid.design.library → IsAccessTable grid flat slots
+        → ((n : ℕ) → Contains starts n ↔ IsOneOf (IsNumberOf grid) (MeetsJoined flat net) n)
+        → ((n : ℕ) → Contains finish n ↔ IsOneOf (IsNumberOf grid) (MeetsRest flat net) n)
+        → IsShortest (IsNodeAdmitted slots net) (IsStep (IsNeighbourNear grid origin around) (IsStepAdmitted grid slots net))
+        (Contains starts) (Contains finish) numbers
         → IsNextWalkAt grid flat net numbers }
-    ensures none { (grid : GridModel) (origin around : List SlotBox) (flat : FlatModel) (slots : List SlotAccess) (net : ℕ) (starts finish : List ℕ) → IsDesignGrid grid
-        → IsSound grid.design.library → IsAccessTable grid flat slots
-        → ((n : ℕ) → Contains starts n ↔ IsOneOf (IsNumberOf grid) (MeetsJoined flat net) n) → ((n : ℕ) → Contains finish n ↔ IsOneOf (IsNumberOf grid) (MeetsRest flat net) n)
+    ensures none { (grid : GridModel) (origin around : List SlotBox) (flat : FlatModel) (slots : List SlotAccess) (net : ℕ) (starts finish : List ℕ)
+        → IsDesignGrid grid → IsSound grid.design.library → IsAccessTable grid flat slots
+        → ((n : ℕ) → Contains starts n ↔ IsOneOf (IsNumberOf grid) (MeetsJoined flat net) n)
+        → ((n : ℕ) → Contains finish n ↔ IsOneOf (IsNumberOf grid) (MeetsRest flat net) n)
         → NoWalk (IsNodeAdmitted slots net) (IsStep (IsNeighbourNear grid origin around) (IsStepAdmitted grid slots net)) (Contains starts) (Contains finish)
         → HasNoWalkAt grid flat net }
-    ensures within { (grid : GridModel) (origin around : List SlotBox) (slots : List SlotAccess) (net : ℕ) (starts finish numbers : List ℕ) → length slots ≡ slot_total grid
-        → IsShortest (IsNodeAdmitted slots net) (IsStep (IsNeighbourNear grid origin around) (IsStepAdmitted grid slots net)) (Contains starts) (Contains finish) numbers
+    ensures within { (grid : GridModel) (origin around : List SlotBox) (slots : List SlotAccess) (net : ℕ) (starts finish numbers : List ℕ)
+        → length slots ≡ slot_total grid
+        → IsShortest (IsNodeAdmitted slots net) (IsStep (IsNeighbourNear grid origin around) (IsStepAdmitted grid slots net))
+        (Contains starts) (Contains finish) numbers
         → All (λ n. n < slot_total grid) numbers }
 {}
 
 /// What a search in the graph of a net answers, from any numbers to any others, is an open walk of the net from the nodes of the
 /// ones to the nodes of the others, where the table has what is open in the flat.
 pub fn searches_walk_as_nodes()
-    ensures shortest { (grid : GridModel) (origin around : List SlotBox) (flat : FlatModel) (slots : List SlotAccess) (net : ℕ) (starts finish numbers : List ℕ) → IsDesignGrid grid
-        → IsSound grid.design.library → IsAccessTable grid flat slots
-        → IsShortest (IsNodeAdmitted slots net) (IsStep (IsNeighbourNear grid origin around) (IsStepAdmitted grid slots net)) (Contains starts) (Contains finish) numbers
-        → (nodes : List Node) × AllZip (IsNumberOf grid) numbers nodes × IsShortest (IsOpenNode grid.design flat net) (IsOpenStep grid.design flat net) (IsNodeAmong grid starts) (IsNodeAmong grid finish) nodes }
-    ensures none { (grid : GridModel) (origin around : List SlotBox) (flat : FlatModel) (slots : List SlotAccess) (net : ℕ) (starts finish : List ℕ) → IsDesignGrid grid
-        → IsSound grid.design.library → IsAccessTable grid flat slots
+    ensures shortest { (grid : GridModel) (origin around : List SlotBox) (flat : FlatModel) (slots : List SlotAccess) (net : ℕ) (starts finish numbers : List ℕ)
+        → IsDesignGrid grid → IsSound grid.design.library → IsAccessTable grid flat slots
+        → IsShortest (IsNodeAdmitted slots net) (IsStep (IsNeighbourNear grid origin around) (IsStepAdmitted grid slots net))
+        (Contains starts) (Contains finish) numbers
+        → (nodes : List Node) × AllZip (IsNumberOf grid) numbers nodes
+        × IsShortest (IsOpenNode grid.design flat net) (IsOpenStep grid.design flat net) (IsNodeAmong grid starts) (IsNodeAmong grid finish) nodes }
+    ensures none { (grid : GridModel) (origin around : List SlotBox) (flat : FlatModel) (slots : List SlotAccess) (net : ℕ) (starts finish : List ℕ)
+        → IsDesignGrid grid → IsSound grid.design.library → IsAccessTable grid flat slots
         → NoWalk (IsNodeAdmitted slots net) (IsStep (IsNeighbourNear grid origin around) (IsStepAdmitted grid slots net)) (Contains starts) (Contains finish)
         → NoWalk (IsOpenNode grid.design flat net) (IsOpenStep grid.design flat net) (IsNodeAmong grid starts) (IsNodeAmong grid finish) }
 {}
@@ -56,7 +63,9 @@ pub fn searches_walk_as_nodes()
 /// none.
 #[tactic(auto, using(crate::proofs::NextWalks::next_walk, crate::proofs::NextWalks::no_next_walk))]
 pub fn numbers_walk_as_nodes()
-    ensures shortest { (grid : GridModel) (flat : FlatModel) (net : ℕ) (numbers : List ℕ) → IsDesignGrid grid → IsNextWalkAt grid flat net numbers → (nodes : List Node) × AllZip (IsNumberOf grid) numbers nodes × IsNextWalk grid.design flat net nodes }
+    ensures shortest { (grid : GridModel) (flat : FlatModel) (net : ℕ) (numbers : List ℕ)
+        → IsDesignGrid grid → IsNextWalkAt grid flat net numbers
+        → (nodes : List Node) × AllZip (IsNumberOf grid) numbers nodes × IsNextWalk grid.design flat net nodes }
     ensures none { (grid : GridModel) (flat : FlatModel) (net : ℕ) → IsDesignGrid grid → HasNoWalkAt grid flat net → HasNoWalk grid.design flat net }
 {}
 

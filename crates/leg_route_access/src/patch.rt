@@ -1,7 +1,7 @@
 //! Patches of metal, and which nets may have them beside a shape.
 
-ghost use Rattle.std.specs.Prelude.{◌≡◌, ◌↔◌, IsTrue};
-ghost use Rattle.leg_geom.specs.Plane.{PointModel, RectModel, HasPoint};
+ghost use Rattle.std.specs.Prelude.{◌≡◌, ◌↔◌};
+ghost use Rattle.leg_geom.specs.Plane.{PointModel, HasPoint};
 ghost use Rattle.leg_lib_records.specs.Sound.{IsWidth};
 ghost use Rattle.leg_design_records.specs.declared.records.Wire.TheVariants.{Patch};
 ghost use Rattle.leg_design_records.specs.WellFormedParts.{IsPosition};
@@ -14,7 +14,7 @@ ghost use Rattle.leg_rules.specs.Route.OpenMetal.{IsOpenWire};
 ghost use Rattle.leg_route_access.specs.Steps.AccessTable.{AdmitsJust};
 
 use leg_design_records::Design;
-use leg_geom::{Orient, Place, Point, Rect};
+use leg_geom::{Point, Rect};
 use leg_rules::Shape;
 use leg_wire_spacing::{Access, access_beside};
 use std::alloc::Allocator;
@@ -43,11 +43,7 @@ fn shifted(at: &Point, rect: &Rect) -> Rect
     requires rect { IsSmallRect rect.now }
     ensures { (p : PointModel) → HasPoint result p ↔ HasPointOf (Shifted at.now rect.now) p }
 {
-    let place = Place {
-        at: *at,
-        orient: Orient::N,
-    };
-    place.rect(0, 0, rect)
+    rect.moved(at)
 }
 
 /// Which nets may have the patch beside this shape, a rectangle that is given from a point.

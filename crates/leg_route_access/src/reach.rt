@@ -2,17 +2,17 @@
 
 ghost use Rattle.std.specs.Prelude.{◌≡◌, ◌<◌, ◌+ℤ◌, pos, All, Some, length, slice_get};
 ghost use Rattle.leg_lex.specs.declared.limits.TheConstants.{NUMBER_LIMIT};
-ghost use Rattle.leg_lib_records.specs.Sound.{IsWidth, AreWithin, AreShapesWithin, IsSoundLayer};
+ghost use Rattle.leg_lib_records.specs.Sound.{IsWidth, AreWithin, AreShapesWithin};
 ghost use Rattle.leg_lib_records.specs.Records.{ViaModel};
-ghost use Rattle.leg_wire_spacing.specs.LayerSpacing.{spacing_at};
 ghost use Rattle.leg_rules.specs.Route.StepWires.{half};
 ghost use Rattle.leg_route_access.specs.Steps.Reaches.{Reaches, IsDistance, IsReach, ReachesAll, IsWider, ReachesShape, ReachesMetal, AreNearLayers, clear_at, IsFar};
 
 use crate::patch::half;
 use leg_design_records::Design;
 use leg_geom::Rect;
-use leg_lib_records::{Layer, Library, Shape};
+use leg_lib_records::{Library, Shape};
 use leg_route_grid::{Grid, RoutingLayer, grid_is_sound};
+use leg_wire_spacing::greatest_spacing_on;
 use std::alloc::Allocator;
 
 /// The reach, or 0 where there is none, widened to a rectangle that is given from a point.
@@ -110,37 +110,22 @@ pub(crate) fn reach_on<A: Allocator + Copy>(
     }
 }
 
-/// The spacing of the layer of this number; 0 where there is none.
-fn spacing_of(layers: &[Layer<'_>], layer: usize) -> i64
-    requires { All IsSoundLayer layers.now }
-    ensures is { result ≡ pos (spacing_at layers.now layer) }
+/// How far apart metal on the layer of this number may lie along an axis and still be nearer than the greatest spacing on it, or touch.
+fn clear_of<A: Allocator + Copy>(library: &Library<'_, A>, layer: usize) -> i64
+    ensures is { result ≡ pos (clear_at library.now layer) }
     ensures proper { IsDistance result }
 {
-    match layers.get(layer) {
-        Some(layer) => layer.spacing,
-        None => 0,
-    }
-}
-
-/// How far apart metal on the layer of this number may lie along an axis and still be nearer than the spacing, or touch.
-fn clear_of(layers: &[Layer<'_>], layer: usize) -> i64
-    requires { All IsSoundLayer layers.now }
-    ensures is { result ≡ pos (clear_at layers.now layer) }
-    ensures proper { IsDistance result }
-{
-    let spacing = spacing_of(layers, layer);
-    if spacing > 0 { spacing - 1 } else { 0 }
+    greatest_spacing_on(library, layer).saturating_sub(1) as i64
 }
 
 /// How far from a point metal on the layer of this number may lie along an axis and still be too near to metal there that reaches
 /// so far from the point.
-pub(crate) fn far_on(layers: &[Layer<'_>], layer: usize, reach: i64) -> i64
-    requires layers { All IsSoundLayer layers.now }
-    requires reach { IsDistance reach }
-    ensures is { result ≡ reach +ℤ pos (clear_at layers.now layer) }
+pub(crate) fn far_on<A: Allocator + Copy>(library: &Library<'_, A>, layer: usize, reach: i64) -> i64
+    requires { IsDistance reach }
+    ensures is { result ≡ reach +ℤ pos (clear_at library.now layer) }
     ensures proper { IsFar result }
 {
-    reach + clear_of(layers, layer)
+    reach + clear_of(library, layer)
 }
 
 /// The routing layers, from the first to before the end, of which nodes or steps may add metal on the layer of this number: those

@@ -2,7 +2,7 @@
 
 ghost use Rattle.std.specs.Prelude.{◌≡◌, ℕ, ◌<◌, ◌⊎◌, [], ◌∷◌, false, Some, IsTrue, All, IfOk, length, drop};
 ghost use Rattle.leg_lib_records.specs.Sound.{IsSound};
-ghost use Rattle.leg_design_records.specs.Layers.{wire_width, width_of_layer, is_routing};
+ghost use Rattle.leg_design_records.specs.Layers.{width_of_layer, is_routing};
 ghost use Rattle.leg_design_records.specs.WellFormed.{IsWellFormed};
 ghost use Rattle.leg_design_records.specs.WellFormedNets.{IsWire};
 ghost use Rattle.leg_rules.specs.Route.Nodes.{IsNode};
@@ -14,21 +14,11 @@ ghost use Rattle.leg_route_access.specs.Steps.FirstWire.{SpellsAll, BeginsWithWi
 
 use crate::patch::{half, square};
 use crate::sides::{run_length, side_of, stays_on_layer};
-use leg_design_records::{Design, Wire};
-use leg_lib_records::{LayerKind, Library};
+use leg_design_records::{Design, Wire, wire_width};
+use leg_lib_records::Library;
 use leg_route_grid::{Grid, grid_is_sound, routing_layer_of};
 use leg_rules::Node;
 use std::alloc::{AllocError, Allocator};
-
-/// The width of the wires on a layer of this kind, if there are wires.
-fn width_of(kind: LayerKind) -> Option<i64>
-    ensures { result ≡ wire_width kind }
-{
-    match kind {
-        LayerKind::Routing { width, .. } => Some(width),
-        LayerKind::Cut | LayerKind::Other => None,
-    }
-}
 
 /// The width of the wires on the routing layer of this number.
 fn width_on<A: Allocator + Copy>(library: &Library<'_, A>, layer: usize) -> i64
@@ -36,7 +26,7 @@ fn width_on<A: Allocator + Copy>(library: &Library<'_, A>, layer: usize) -> i64
     ensures is { width_of_layer library.now layer ≡ Some result }
     ensures proper { IsSound library.now }
 {
-    width_of(library.layers()[layer].kind).unwrap()
+    wire_width(library.layers()[layer].kind).unwrap()
 }
 
 /// The patch of a node.

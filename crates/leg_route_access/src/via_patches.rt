@@ -1,6 +1,6 @@
 //! Vias, and which nets may have them beside a shape.
 
-ghost use Rattle.std.specs.Prelude.{◌≡◌, ◌↔◌, ℕ, All, Some, slice_get};
+ghost use Rattle.std.specs.Prelude.{◌≡◌, All, Some, slice_get};
 ghost use Rattle.leg_lex.specs.declared.limits.TheConstants.{NUMBER_LIMIT};
 ghost use Rattle.leg_lib_records.specs.Sound.{AreShapesWithin};
 ghost use Rattle.leg_lib_records.specs.Records.{ViaModel};
@@ -44,7 +44,8 @@ pub(crate) fn via_beside<A: Allocator + Copy>(
     at: &Point,
 ) -> Access
     requires at { IsPosition at.now }
-    ensures { (said : ViaModel) → slice_get design.now.library.vias via ≡ Some said → AdmitsJust result (λ net. IsOpenWire design.now (alone shape.now) net (ViaAt via at.now)) }
+    ensures { (said : ViaModel) → slice_get design.now.library.vias via ≡ Some said
+        → AdmitsJust result (λ net. IsOpenWire design.now (alone shape.now) net (ViaAt via at.now)) }
 {
     match design.library().vias().get(via) {
         Some(via) => patches_beside(design, shape, at, via.shapes.as_slice()),

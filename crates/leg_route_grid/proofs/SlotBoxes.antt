@@ -11,7 +11,7 @@ use Rattle.leg_route_grid.specs.Steps.NodesInRect.{LiesInRect}
 use Rattle.leg_route_grid.specs.Steps.NodeNumbers.{IsOneOf}
 use Rattle.leg_route_grid.specs.Steps.WalkBounds.{slot_bound, nearest, slot_of, bound_at, IsBoxOf, IsInBox, HasJust, AreBoxed}
 use Rattle.leg_route_grid.specs.Steps.Boxes.{IsBoxAt, HaveGotBox}
-use Rattle.leg_route_grid.specs.Steps.Places.{ArePlaces}
+use Rattle.leg_geom.specs.Line.{ArePlaces}
 use Rattle.leg_route_grid.specs.Steps.SlotRanges.{IsRoutingLayerAt, IsInRows, HaveGot}
 use Rattle.leg_route_grid.proofs.Bounds.{slot_is, slot_there, in_boxes, nearest_first, nearest_upto, nearest_none, from_none, none_upto}
 use Rattle.leg_route_grid.proofs.SlotRanges.{in_rect, from_rect}

@@ -8,7 +8,7 @@ use Rattle.std.proofs.lemmas.Option.{slice_get_within, slice_get-get_or, get_or_
 use Rattle.leg_lemmas.proofs.Places.{slice_set_here, slice_set_elsewhere}
 use Rattle.leg_design_records.specs.declared.records.Axis.{Axis}
 use Rattle.leg_design_records.specs.Records.{TrackModel, DesignModel}
-use Rattle.leg_route_grid.specs.Steps.Places.{ArePlaces}
+use Rattle.leg_geom.specs.Line.{ArePlaces}
 use Rattle.leg_route_grid.specs.Steps.Lines.{IsTrackAt, HaveMarked}
 use Rattle.leg_route_grid.specs.Steps.TrackMarks.{AreTrackMarks}
 

@@ -7,7 +7,6 @@ pub mod SlotRanges
 pub mod Boxes
 pub mod WalkBounds
 pub mod SlotNeighbours
-pub mod Places
 pub mod NodesInRect
 pub mod TrackMarks
 pub mod NodeNumbers

@@ -47,9 +47,23 @@ impl<'g, 'a, A: Allocator + Copy> Model for Grid<'g, 'a, A> {
 
     ghost Value = { GridModel };
 
-    ghost view = { λ g. record { design = g.design.now; layers = g.layers.items; xs = g.xs.items; ys = g.ys.items; tracks = g.tracks.items; vias = g.vias.items } };
+    ghost view = { λ g. record {
+      design = g.design.now;
+      layers = g.layers.items;
+      xs = g.xs.items;
+      ys = g.ys.items;
+      tracks = g.tracks.items;
+      vias = g.vias.items;
+    } };
 
-    ghost invariant = { λ g. IsDesignGrid (record { design = g.design.now; layers = g.layers.items; xs = g.xs.items; ys = g.ys.items; tracks = g.tracks.items; vias = g.vias.items }) };
+    ghost invariant = { λ g. IsDesignGrid (record {
+      design = g.design.now;
+      layers = g.layers.items;
+      xs = g.xs.items;
+      ys = g.ys.items;
+      tracks = g.tracks.items;
+      vias = g.vias.items;
+    }) };
 }
 
 /// The marks of the tracks of a routing layer.

@@ -22,12 +22,15 @@ pub fn nodes_have_numbers()
 
 /// Slots in which nodes lie step to the slots beside them exactly as their nodes do.
 pub fn slots_step_as_nodes()
-    ensures { (grid : GridModel) (side : Side) (s t : Slot) (a b : Node) → IsDesignGrid grid → LiesAt grid s.layer s.row s.column a → LiesAt grid t.layer t.row t.column b
+    ensures { (grid : GridModel) (side : Side) (s t : Slot) (a b : Node)
+        → IsDesignGrid grid → LiesAt grid s.layer s.row s.column a → LiesAt grid t.layer t.row t.column b
         → IsNode grid.design a → IsNode grid.design b → (IsSlotNeighbour grid side s t ↔ IsNeighbour grid.design side a b) }
 {}
 
 /// A step comes one nearer to the nearest of some boxes at most, and from the slots of each of them none is left.
 pub fn bounds_hold()
-    ensures nearer { (grid : GridModel) (boxes : List SlotBox) (side : Side) (n to : ℕ) → IsDesignGrid grid → IsNeighbourAt grid side n to → bound_at grid boxes n ≤ bound_at grid boxes to + 1 }
-    ensures inside { (grid : GridModel) (boxes : List SlotBox) (ends : SlotBox) (n : ℕ) (s : Slot) → IsSlot grid n s.layer s.row s.column → Contains boxes ends → IsInBox ends s → bound_at grid boxes n ≡ 0 }
+    ensures nearer { (grid : GridModel) (boxes : List SlotBox) (side : Side) (n to : ℕ)
+        → IsDesignGrid grid → IsNeighbourAt grid side n to → bound_at grid boxes n ≤ bound_at grid boxes to + 1 }
+    ensures inside { (grid : GridModel) (boxes : List SlotBox) (ends : SlotBox) (n : ℕ) (s : Slot)
+        → IsSlot grid n s.layer s.row s.column → Contains boxes ends → IsInBox ends s → bound_at grid boxes n ≡ 0 }
 {}

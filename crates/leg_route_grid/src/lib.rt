@@ -28,4 +28,4 @@ pub use layers::{RoutingLayer, routing_layer_of};
 pub use leg_rules::{GREATEST_GRID, GRID_LIMIT, Node};
 pub use slot::Slot;
 pub use slot_box::{BoxedSlots, SlotBox, bound, bound_of_box};
-pub use slots_in::{add_slots_in, places_within};
+pub use slots_in::add_slots_in;

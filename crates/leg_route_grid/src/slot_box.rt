@@ -1,6 +1,6 @@
 //! How many steps are left at least to some boxes of slots.
 
-ghost use Rattle.std.specs.Prelude.{◌≡◌, ◌<◌, ◌≤◌, ◌^◌, [], ℕ, min, length, All};
+ghost use Rattle.std.specs.Prelude.{◌≡◌, ◌<◌, ◌≤◌, ◌^◌, [], ℕ, min, All};
 ghost use Rattle.leg_route_grid.specs.Steps.Grid.{GridModel, slot_total};
 ghost use Rattle.leg_route_grid.specs.declared.slot.Slot.{Slot};
 ghost use Rattle.leg_route_grid.specs.Steps.WalkBounds.{gap, slot_bound, nearest, bound_at, IsBoxOf, IsInBox, AreBoxed};

@@ -1,32 +1,20 @@
 //! The slots whose points lie in a rectangle, and their box.
 
-ghost use Rattle.std.specs.Prelude.{◌≡◌, ◌↔◌, IsTrue, ◌⊎◌, ◌<◌, ◌≤◌, ℕ, ◌<ℤ◌, List, ◌++◌, length, All, AllPairs, Contains, OnOk};
+ghost use Rattle.std.specs.Prelude.{◌≡◌, ◌↔◌, IsTrue, ◌⊎◌, ◌<◌, ◌≤◌, ℕ, List, ◌++◌, length, All, Contains, OnOk};
 ghost use Rattle.leg_route_grid.specs.Steps.NodesInRect.{LiesInRect};
 ghost use Rattle.leg_route_grid.specs.Steps.Grid.{slot_total, IsNumberOf};
 ghost use Rattle.leg_route_grid.specs.Steps.NodeNumbers.{IsOneOf};
 ghost use Rattle.leg_route_grid.specs.declared.slot_box.SlotBox.{SlotBox};
 ghost use Rattle.leg_route_grid.specs.Steps.WalkBounds.{HasJust, AreBoxed};
 ghost use Rattle.leg_route_grid.specs.Steps.Boxes.{HaveGotBox};
-ghost use Rattle.leg_route_grid.specs.Steps.Places.{ArePlaces};
 ghost use Rattle.leg_route_grid.specs.Steps.SlotRanges.{IsInRow, IsInRows, HaveGot, HaveDropped};
 
 use crate::grid::Grid;
 use crate::layers::routing_layer_of;
 use crate::slot::Slot;
 use crate::slot_box::{BoxedSlots, SlotBox};
-use leg_geom::Rect;
+use leg_geom::{Rect, places_within};
 use std::alloc::{AllocError, Allocator};
-
-/// The places of the values from low to high, both among them, in a list of increasing values: the first place, and the one
-/// past the last. Where no value lies there, the first is not below the other.
-pub fn places_within(values: &[i64], low: i64, high: i64) -> (usize, usize)
-    requires { AllPairs (λ a b. a <ℤ b) values.now }
-    ensures { ArePlaces values.now low high result.0 result.1 }
-{
-    let first = values.partition_point(|z| *z < low);
-    let end = values.partition_point(|z| *z <= high);
-    (first, end)
-}
 
 /// Whether the slot of this number lies in these rows and columns of a layer.
 fn lies_in<A: Allocator + Copy>(
@@ -227,12 +215,14 @@ pub fn add_slots_in<A: Allocator + Copy>(
     rect: &Rect,
     found: &mut BoxedSlots<A>,
 ) -> Result<(), AllocError>
-    ensures added { OnOk result ((n : ℕ) → Contains found.new.slots.items n ↔ (Contains found.old.slots.items n ⊎ IsOneOf (IsNumberOf grid.now) (LiesInRect layer rect.now) n)) }
+    ensures added { OnOk result ((n : ℕ) → Contains found.new.slots.items n
+        ↔ (Contains found.old.slots.items n ⊎ IsOneOf (IsNumberOf grid.now) (LiesInRect layer rect.now) n)) }
     ensures boxes { OnOk result ((ends : SlotBox) → Contains found.new.boxes.items ends
         → Contains found.old.boxes.items ends ⊎ HasJust grid.now (IsOneOf (IsNumberOf grid.now) (LiesInRect layer rect.now)) ends) }
     ensures after { OnOk result ((more : List SlotBox) × (found.new.boxes.items ≡ found.old.boxes.items ++ more)) }
     ensures within { All (λ n. n < slot_total grid.now) found.old.slots.items → OnOk result (All (λ n. n < slot_total grid.now) found.new.slots.items) }
-    ensures boxed { AreBoxed grid.now found.old.boxes.items found.old.slots.items → OnOk result (AreBoxed grid.now found.new.boxes.items found.new.slots.items) }
+    ensures boxed { AreBoxed grid.now found.old.boxes.items found.old.slots.items
+        → OnOk result (AreBoxed grid.now found.new.boxes.items found.new.slots.items) }
 {
     let Some(k) = routing_layer_of(grid.layers(), layer) else {
         return Ok(());

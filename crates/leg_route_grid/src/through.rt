@@ -1,9 +1,7 @@
 //! The vias from each routing layer to the next one above.
 
-ghost use Rattle.std.specs.Prelude.{◌≡◌, ◌↔◌, ◌<◌, ◌≤◌, ℕ, IsTrue, Any, All, Some, MatchOption, length, IfOk};
+ghost use Rattle.std.specs.Prelude.{◌≡◌, ◌↔◌, ◌≤◌, ℕ, IsTrue, Any, All, Some, MatchOption, length, IfOk};
 ghost use Rattle.std.specs.Option.{unwrap_or};
-ghost use Rattle.leg_lib_records.specs.JoinLaw.{IsUsed};
-ghost use Rattle.leg_lib_records.specs.GoodVia.{parts_of};
 ghost use Rattle.leg_lib_records.specs.References.{IsViaOf};
 ghost use Rattle.leg_rules.specs.Route.Between.{JoinsLayers};
 ghost use Rattle.leg_route_grid.specs.Steps.Grid.{AreRoutingLayers, AreViasFrom};
@@ -60,7 +58,8 @@ fn joins_as<A: Allocator + Copy>(
 
 /// The lowest layer on which shapes lie, if there are shapes.
 fn lowest_layer(shapes: &[Shape]) -> Option<usize>
-    ensures { MatchOption result (length shapes.now ≡ 0) (λ lowest. Any (λ shape. shape.layer ≡ lowest) shapes.now × All (λ shape. lowest ≤ shape.layer) shapes.now) }
+    ensures { MatchOption result (length shapes.now ≡ 0)
+        (λ lowest. Any (λ shape. shape.layer ≡ lowest) shapes.now × All (λ shape. lowest ≤ shape.layer) shapes.now) }
 {
     shapes.iter().map(|shape| shape.layer).min()
 }

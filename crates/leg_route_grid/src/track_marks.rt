@@ -6,8 +6,8 @@ ghost use Rattle.leg_route_grid.specs.Steps.Lines.{HasLines, IsTrackAt, HaveMark
 ghost use Rattle.leg_route_grid.specs.Steps.TrackMarks.{AreTrackMarks};
 
 use crate::lines::{are_for, count_of, is_along, line};
-use crate::slots_in::places_within;
 use leg_design_records::{Axis, Design, Track};
+use leg_geom::places_within;
 use std::alloc::{AllocError, Allocator};
 
 /// Sets the mark of this value, if it is one of the values.

@@ -17,6 +17,7 @@ use Rattle.leg_rules.specs.Metal.Nets.{terminals_of, wires_of, regular_entry, sp
 use Rattle.leg_rules.specs.Metal.Metal.{OnLayer, Belonging, Metal, metal_of, wire_outlines}
 use Rattle.leg_rules.specs.Metal.Pieces.{piece_component, of_piece}
 use Rattle.leg_rules.specs.Metal.Flat.{FlatModel, IsShapeOf, pieces_with}
+use Rattle.leg_wire_spacing.proofs.RequiredSpacing.{HaveSamePoints}
 use Rattle.leg_route_laws.specs.Growth.{AddedWire, wires_added, IsMetalAdded, HasGrown}
 use Rattle.leg_route_laws.specs.FinishedDesign.{finished, IsFinishedFrom}
 use Rattle.leg_route_laws.proofs.Places.{has_like, is_like}
@@ -24,7 +25,6 @@ use Rattle.leg_route_laws.proofs.PiecesWith.{same_terminals, same_wires}
 use Rattle.leg_route_laws.proofs.Growth.{has_grown}
 use Rattle.leg_route_laws.proofs.FixedMetal.{IsFixed, fixed_there, fixed_back, fixed_or_wire, from_fixed}
 use Rattle.leg_route_laws.proofs.Moves.{Moves}
-use Rattle.leg_route_laws.proofs.SameShapes.{AreAlike}
 use Rattle.leg_route_laws.proofs.NetMetal.{MetalHasItsPiece, PieceHasItsMetal, IsDrawn, IsNet, net_or_not, pieces_are, drawn_from, drawn_to}
 use Rattle.leg_route_laws.proofs.NetWires.{none_added, wires_before}
 use Rattle.leg_route_laws.proofs.FlatPieces.{pieces_at, pieces_there}
@@ -54,7 +54,7 @@ pub record HasMovedPiece (design : DesignModel) (added : List AddedWire) (s t : 
   pub moves : MovesIn design added n g d
 
 pub record IsMoved (design : DesignModel) (added : List AddedWire) (s t : Shape) : Type 0 where
-  pub alike : AreAlike s t
+  pub alike : HaveSamePoints s t
   pub piece : (n : ℕ) → s.owner ≡ Net n → HasMovedPiece design added s t n
 
 module _ (metal_has : MetalHasItsPiece) (piece_has : PieceHasItsMetal) (design : DesignModel) (added : List AddedWire) (grown : FlatModel)

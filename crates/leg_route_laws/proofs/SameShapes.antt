@@ -1,7 +1,6 @@
 -- Flats whose shapes are alike but for pieces and order have the same shorts and shapes too near one another.
-use Rattle.std.proofs.Common.{◌≡◌, ◌↔◌, ℕ, List, Contains, slice_get, sym, ap, ◌∙◌}
+use Rattle.std.proofs.Common.{ℕ, List, Contains, sym, ◌∙◌}
 use Rattle.leg_lemmas.proofs.Places.{contains_at}
-use Rattle.leg_geom.specs.Plane.{PointModel, HasPoint}
 use Rattle.leg_lib_records.specs.Records.{LibraryModel}
 use Rattle.leg_design_records.specs.declared.fault.Fault.TheVariants.{Short, TooNear}
 use Rattle.leg_rules.specs.declared.shape.Shape.{Shape}
@@ -10,16 +9,11 @@ use Rattle.leg_rules.specs.Spacing.Comparable.{AreComparable}
 use Rattle.leg_rules.specs.Spacing.Violations.{AreShort, AreTooNear, IsSpacingViolation}
 use Rattle.leg_rules.specs.Spacing.Violations.IsSpacingViolation.{short, too_near}
 use Rattle.leg_route_laws.specs.Violations.{HasShort, HasTooNear}
-use Rattle.leg_route_laws.proofs.StillClean.{short_back, near_back, pair_of}
+use Rattle.leg_wire_spacing.proofs.RequiredSpacing.{HaveSamePoints, required_alike}
+use Rattle.leg_wire_spacing.proofs.CloserShapes.{too_near_back}
+use Rattle.leg_route_laws.proofs.StillClean.{short_back, pair_of}
 
--- two shapes are alike: all but the piece, and the rectangle point by point
-pub record AreAlike (s t : Shape) : Type 0 where
-  pub layer : s.layer ≡ t.layer
-  pub owner : s.owner ≡ t.owner
-  pub component : s.component ≡ t.component
-  pub points : (p : PointModel) → HasPoint s.rect p ↔ HasPoint t.rect p
-
-pub alike_back : (s t : Shape) → AreAlike s t → AreAlike t s
+pub alike_back : (s t : Shape) → HaveSamePoints s t → HaveSamePoints t s
 alike_back s t h = record {
   layer = sym h.layer;
   owner = sym h.owner;
@@ -29,9 +23,9 @@ alike_back s t h = record {
 
 -- each shape of the first list has its like in the second
 abbrev pub HaveLikes : List Shape → List Shape → Type 0
-HaveLikes xs ys = (s : Shape) → Contains xs s → (t : Shape) × Contains ys t × AreAlike s t
+HaveLikes xs ys = (s : Shape) → Contains xs s → (t : Shape) × Contains ys t × HaveSamePoints s t
 
-module _ (a b c d : Shape) (left : AreAlike a c) (right : AreAlike b d) where
+module _ (a b c d : Shape) (left : HaveSamePoints a c) (right : HaveSamePoints b d) where
   comparable_like : AreComparable a b → AreComparable c d
   comparable_like h = record {
     layer = sym left.layer ∙ h.layer ∙ right.layer;
@@ -54,9 +48,13 @@ module _ (a b c d : Shape) (left : AreAlike a c) (right : AreAlike b d) where
       in_a = (left.points shared.point).1 shared.in_a;
       in_b = (right.points shared.point).1 shared.in_b;
     });
-    layer = h.layer;
-    there = ap (slice_get library.layers) (sym left.layer) ∙ h.there;
-    near = record { p = h.near.p; q = h.near.q; in_a = (left.points h.near.p).0 h.near.in_a; in_b = (right.points h.near.q).0 h.near.in_b; near = h.near.near };
+    near = record {
+      p = h.near.p;
+      q = h.near.q;
+      in_a = (left.points h.near.p).0 h.near.in_a;
+      in_b = (right.points h.near.q).0 h.near.in_b;
+      near = rw (← required_alike library a b c d left right) h.near.near;
+    };
   }
 
 module _ (library : LibraryModel) (first second : FlatModel) (likes : HaveLikes first.shapes second.shapes) where
@@ -76,6 +74,6 @@ module _ (library : LibraryModel) (first second : FlatModel) (likes : HaveLikes 
         let a = likes pair.a (contains_at first.shapes i pair.a pair.a_at) in
         let b = likes pair.b (contains_at first.shapes j pair.b pair.b_at) in
         let there =
-        pair_of (AreTooNear library) (near_back library) (λ x y r. r.comparable) second.shapes a.0 b.0 a.1 b.1
+        pair_of (AreTooNear library) (too_near_back library) (λ x y r. r.comparable) second.shapes a.0 b.0 a.1 b.1
         (near_like pair.a pair.b a.0 b.0 a.2 b.2 library pair.holds) in
         (there.0, there.1, too_near there.2)

@@ -4,7 +4,7 @@ use Rattle.std.proofs.lemmas.Bool.{cases_order}
 use Rattle.std.proofs.lemmas.Option.{same_Some}
 use Rattle.std.proofs.lemmas.List.Elements.{Contains-append_cases}
 use Rattle.leg_lemmas.proofs.Places.{place_of_contained, contains_at, HasPlace}
-use Rattle.leg_geom.proofs.Gaps.{SharePoint-symmetric, square_distance-symmetric}
+use Rattle.leg_geom.proofs.Gaps.{SharePoint-symmetric}
 use Rattle.leg_geom.specs.Pairs.{IsPair}
 use Rattle.leg_lib_records.specs.Records.{LibraryModel}
 use Rattle.leg_design_records.specs.declared.fault.Fault.TheVariants.{Short, TooNear}
@@ -15,27 +15,11 @@ use Rattle.leg_rules.specs.Spacing.Comparable.{AreComparable}
 use Rattle.leg_rules.specs.Spacing.Violations.{AreShort, AreTooNear}
 use Rattle.leg_rules.specs.Spacing.Violations.IsSpacingViolation.{short, too_near}
 use Rattle.leg_rules.specs.Spacing.Clean.{net_metal, IsClean}
+use Rattle.leg_wire_spacing.proofs.CloserShapes.{comparable_back, too_near_back, too_near_is_closer}
 use Rattle.leg_route_laws.specs.CleanWire.{HasNoSpacingFault}
-
-pub comparable_back : (a b : Shape) → AreComparable a b → AreComparable b a
-comparable_back a b h = record {
-  layer = sym h.layer;
-  owners = λ same. h.owners (sym same);
-  apart = λ one. h.apart (record { component = one.component; of_a = one.of_b; of_b = one.of_a });
-  metal = λ second first. h.metal first second;
-}
 
 pub short_back : (a b : Shape) → AreShort a b → AreShort b a
 short_back a b h = record { comparable = comparable_back a b h.comparable; shared = SharePoint-symmetric a.rect b.rect h.shared }
-
-pub near_back : (library : LibraryModel) (a b : Shape) → AreTooNear library a b → AreTooNear library b a
-near_back library a b h = record {
-  comparable = comparable_back a b h.comparable;
-  apart = λ shared. h.apart (SharePoint-symmetric b.rect a.rect shared);
-  layer = h.layer;
-  there = ap (slice_get library.layers) (sym h.comparable.layer) ∙ h.there;
-  near = record { p = h.near.q; q = h.near.p; in_a = h.near.in_b; in_b = h.near.in_a; near = rw (square_distance-symmetric h.near.q h.near.p) h.near.near };
-}
 
 -- two shapes are neither short nor too near
 pub record AreClear (library : LibraryModel) (a b : Shape) : Type 0 where
@@ -71,7 +55,7 @@ module _ (library : LibraryModel) where
         let pair = pair_of AreShort short_back (λ x y r. r.comparable) flat.shapes a b a_there b_there h in
         none (Short pair.0 pair.1) (short pair.2);
     far = λ h.
-        let pair = pair_of (AreTooNear library) (near_back library) (λ x y r. r.comparable) flat.shapes a b a_there b_there h in
+        let pair = pair_of (AreTooNear library) (too_near_back library) (λ x y r. r.comparable) flat.shapes a b a_there b_there h in
         none (TooNear pair.0 pair.1) (too_near pair.2);
   }
 
@@ -84,7 +68,7 @@ module _ (library : LibraryModel) where
   pub clear_back : (a b : Shape) → AreClear library a b → AreClear library b a
   clear_back a b h = record {
     no_short = λ bad. h.no_short (short_back b a bad);
-    far = λ bad. h.far (near_back library b a bad);
+    far = λ bad. h.far (too_near_back library b a bad);
   }
 
   -- shapes of one owner are clear
@@ -103,14 +87,10 @@ module _ (library : LibraryModel) where
   pub clear_clean : (flat : FlatModel) (net : ℕ) (a b : Shape) → a.owner ≡ Net net → IsClean library flat net a.layer a.rect → Contains flat.shapes b
       → AreClear library a b
   clear_clean flat net a b owner clean there = record {
-    no_short = λ bad. clean.no_short b there (record { comparable = comparable_as net a b owner bad.comparable; shared = bad.shared });
-    far = λ bad. clean.far b there (record {
-      comparable = comparable_as net a b owner bad.comparable;
-      apart = bad.apart;
-      layer = bad.layer;
-      there = bad.there;
-      near = bad.near;
-    });
+    no_short = λ bad. clean.far b there (record { comparable = comparable_as net a b owner bad.comparable; close = inl bad.shared });
+    far = λ bad.
+        let closer = too_near_is_closer library a b bad in
+        clean.far b there (record { comparable = comparable_as net a b owner closer.comparable; close = closer.close });
   }
 
   -- metal of a net behind a flat in which it is clean

@@ -1,6 +1,6 @@
 //! Laws of flats and designs that grow by wires. Each function does nothing: its contract is the law.
 
-ghost use Rattle.std.specs.Prelude.{◌≡◌, ◌≢◌, ◌↔◌, ◌<◌, ◌+◌, ◌⊎◌, ◌++◌, ◌-◌, ◌+ℤ◌, ◌∷◌, [], ◌≤ℤ◌, ◌≤◌, ℕ, ℤ, Bool, false, pos, List, All, Contains, length, replicate, Some, slice_get, slice_set};
+ghost use Rattle.std.specs.Prelude.{◌≡◌, ◌≢◌, ◌↔◌, ◌<◌, ◌+◌, ◌⊎◌, ◌++◌, ◌-◌, ◌+ℤ◌, [], ◌≤ℤ◌, ◌≤◌, ℕ, ℤ, Bool, false, pos, List, All, Contains, length, replicate, Some, slice_get, slice_set};
 ghost use Rattle.std.specs.List.{range_with_len};
 ghost use Rattle.leg_geom.specs.Plane.{PointModel, RectModel, HasPoint};
 ghost use Rattle.leg_lib_records.specs.Scale.{IsEven};
@@ -23,7 +23,7 @@ ghost use Rattle.leg_wire.specs.NetShapes.{AreNumbersOf};
 ghost use Rattle.leg_wire.specs.PieceMarks.{AreMarks};
 ghost use Rattle.leg_rules.specs.Joins.Touch.{piece_count, AreJoined};
 ghost use Rattle.leg_route_laws.specs.Growth.{AddedWire, Grows, of_net, HasGrown};
-ghost use Rattle.leg_route_laws.specs.CleanWire.{HasNoSpacingFault, IsRectOf, IsCleanWire, HasCleanRect, LiesInClean};
+ghost use Rattle.leg_route_laws.specs.CleanWire.{HasNoSpacingFault, IsCleanWire, HasCleanRect, LiesInClean};
 ghost use Rattle.leg_route_laws.specs.Lines.{EachStep, last_spot, AreInLine, line_outline};
 ghost use Rattle.leg_route_laws.specs.FinishedDesign.{finished, AreByNet, IsFinishedFrom};
 ghost use Rattle.leg_rules.specs.Route.StepWires.{square};

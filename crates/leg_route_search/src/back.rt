@@ -1,6 +1,6 @@
 //! The way back from an end.
 
-ghost use Rattle.std.specs.Prelude.{◌≡◌, ◌<◌, ℕ, length, slice_get, Some, IfOk};
+ghost use Rattle.std.specs.Prelude.{ℕ, IfOk};
 ghost use Rattle.leg_route_search.specs.Steps.Marks.{IsMark, IsAt};
 ghost use Rattle.leg_route_search.specs.Steps.Back.{IsReached, AreEntered, IsWay};
 

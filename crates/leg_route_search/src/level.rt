@@ -1,6 +1,6 @@
 //! One level of a search: the nodes that are a step further than those before.
 
-ghost use Rattle.std.specs.Prelude.{◌≡◌, ◌≤◌, ◌<◌, ◌+◌, ◌^◌, ℕ, IsTrue, true, false, length, All, Contains, OnOk};
+ghost use Rattle.std.specs.Prelude.{◌≡◌, ◌≤◌, ◌<◌, ◌+◌, ◌^◌, IsTrue, true, false, length, All, Contains, OnOk};
 ghost use Rattle.leg_route_search.specs.Steps.SideSteps.{IsStepTo, IsStepIn};
 ghost use Rattle.leg_route_search.specs.Steps.Spread.{IsSpread, IsEntered};
 

@@ -1,6 +1,6 @@
 //! The starts of a search, and how far each is from the ends.
 
-ghost use Rattle.std.specs.Prelude.{◌≡◌, ◌≤◌, ◌<◌, ◌+◌, ℕ, length, All, Contains, IfOk, OnOk};
+ghost use Rattle.std.specs.Prelude.{◌≡◌, ◌≤◌, ◌<◌, ◌+◌, length, All, Contains, IfOk, OnOk};
 ghost use Rattle.leg_route_search.specs.Steps.Spread.{IsSpread};
 ghost use Rattle.leg_route_search.specs.Steps.Starts.{AreLeast};
 

@@ -9,5 +9,4 @@ pub mod Legalise
 pub mod Route
 pub mod Finish
 pub mod Wirelength
-pub mod Names
 pub mod Compare

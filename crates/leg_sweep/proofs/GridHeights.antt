@@ -6,26 +6,26 @@ use Rattle.std.proofs.Math.Nat.{div-mul-le_self, mul-div-le, lt-mul-div-succ, mu
 use Rattle.leg_geom.specs.declared.limits.TheConstants.{COORDINATE_LIMIT}
 use Rattle.leg_geom.specs.Plane.{IsCoordinate}
 use Rattle.leg_geom.specs.Gap.{gap_between}
-use Rattle.leg_sweep.specs.Steps.Grid.{height_of}
+use Rattle.leg_sweep.specs.Steps.Offsets.{offset_of}
 
 pub quotient_rises : (height a b : ℕ) → 0 < height → a ≤ b → a / height ≤ b / height
 quotient_rises height a b some up = le-div (a / height) b height some (omega (arith, div-mul-le_self a height))
 
 -- heights rise with y
-pub height_rises : (low high : ℤ) → IsCoordinate low → IsCoordinate high → low <ℤ high → height_of low ≤ height_of high
+pub height_rises : (low high : ℤ) → IsCoordinate low → IsCoordinate high → low <ℤ high → offset_of low ≤ offset_of high
 height_rises low high is_low is_high up = omega (arith, ints)
 
-pub height_small : (y : ℤ) → IsCoordinate y → height_of y ≤ 2 * COORDINATE_LIMIT
+pub height_small : (y : ℤ) → IsCoordinate y → offset_of y ≤ 2 * COORDINATE_LIMIT
 height_small y is = omega (arith, ints)
 
 -- what begins within the gap above a top edge
 height_near : (bottom top low high : ℤ) (reach : ℕ) → IsCoordinate top → IsCoordinate low → low <ℤ high → gap_between bottom top low high ≤ reach
-    → height_of low ≤ height_of top + reach
+    → offset_of low ≤ offset_of top + reach
 height_near bottom top low high reach is_top is_low long near = grind (arith, ints)
 
 -- the same where the reach is cut off at the greatest height
 pub height_within : (bottom top low high : ℤ) (reach : ℕ) → IsCoordinate top → IsCoordinate low → low <ℤ high → gap_between bottom top low high ≤ reach
-    → height_of low ≤ height_of top + min reach (2 * COORDINATE_LIMIT)
+    → offset_of low ≤ offset_of top + min reach (2 * COORDINATE_LIMIT)
 height_within bottom top low high reach is_top is_low long near =
     let far = height_near bottom top low high reach is_top is_low long near in
     let small = height_small low is_low in

@@ -14,7 +14,8 @@ use Rattle.leg_sweep.specs.declared.band.BandRange.{BandRange}
 use Rattle.leg_sweep.specs.declared.grid.LayerSpan.{LayerSpan}
 use Rattle.leg_sweep.specs.declared.grid.LayerBands.{LayerBands}
 use Rattle.leg_sweep.specs.Steps.Bands.{range_at, entries_at}
-use Rattle.leg_sweep.specs.Steps.Grid.{height_of, rect_height, span_at, bands_at, AreSpans, IsGrid, BeginsIn, range_in}
+use Rattle.leg_sweep.specs.Steps.Offsets.{offset_of}
+use Rattle.leg_sweep.specs.Steps.Grid.{rect_height, span_at, bands_at, AreSpans, IsGrid, BeginsIn, range_in}
 use Rattle.leg_sweep.proofs.GridHeights.{quotient_rises, height_rises, bands_taken}
 use Rattle.leg_sweep.proofs.GridSums.{on_layer, sum_by-map, sum_by_places, sum_thrice, layer_thrice}
 use Rattle.leg_sweep.proofs.GridBands.{bands_within}
@@ -29,7 +30,7 @@ range_among : (bands : LayerBands) (rect : RectModel) → IsRect rect → Begins
 range_among bands rect is begins =
     let rise = height_rises rect.y1 rect.y2 is.y1 is.y2 is.high in
     let below = begins.below in
-    let up = quotient_rises bands.height (height_of rect.y1 - bands.low) (height_of rect.y2 + bands.reach - bands.low) begins.tall (omega (arith, rise)) in
+    let up = quotient_rises bands.height (offset_of rect.y1 - bands.low) (offset_of rect.y2 + bands.reach - bands.low) begins.tall (omega (arith, rise)) in
     record { low = omega arith; up = omega (arith, up, below); high = omega (arith, below) }
 
 -- in how many bands it stands
@@ -40,8 +41,8 @@ entries_of range = range.last + 1 - range.first
 range_taken : (bands : LayerBands) (rect : RectModel) → IsRect rect → BeginsIn bands rect
     → bands.height * entries_of (range_in bands rect) ≤ 2 * bands.height + (rect_height rect + bands.reach)
 range_taken bands rect is begins =
-    let bottom : ℕ = height_of rect.y1 in
-    let top : ℕ = height_of rect.y2 in
+    let bottom : ℕ = offset_of rect.y1 in
+    let top : ℕ = offset_of rect.y2 in
     let rise = height_rises rect.y1 rect.y2 is.y1 is.y2 is.high in
     let first : ℕ = (bottom - bands.low) / bands.height in
     let last : ℕ = min ((top + bands.reach - bands.low) / bands.height) (bands.count - 1) in
@@ -83,9 +84,9 @@ module _ {Item : Type 0} (rect_of : Item → RectModel) (layer_of : Item → ℕ
       let own : LayerBands = bands_at grid layer in
       let is_span = are_spans.each layer within in
       let are = is_grid.each layer within in
-      let low = All-contains (λ b. layer_of b ≡ layer → span.lowest ≤ height_of (rect_of b).y1) items a is_span.lowest has refl in
-      let high = All-contains (λ b. layer_of b ≡ layer → height_of (rect_of b).y1 ≤ span.highest) items a is_span.highest has refl in
-      let rises = quotient_rises own.height (height_of (rect_of a).y1 - own.low) (span.highest - span.lowest) are.tall (omega (arith, are.low, high)) in
+      let low = All-contains (λ b. layer_of b ≡ layer → span.lowest ≤ offset_of (rect_of b).y1) items a is_span.lowest has refl in
+      let high = All-contains (λ b. layer_of b ≡ layer → offset_of (rect_of b).y1 ≤ span.highest) items a is_span.highest has refl in
+      let rises = quotient_rises own.height (offset_of (rect_of a).y1 - own.low) (span.highest - span.lowest) are.tall (omega (arith, are.low, high)) in
       let enough = are.enough (omega (arith, is_span.count, counted a has)) in
       let all = bands_within grid layer (omega (arith, is_grid.many, within)) in
       record {

@@ -12,7 +12,8 @@ use Rattle.leg_sweep.specs.declared.grid.LayerSpan.{LayerSpan}
 use Rattle.leg_sweep.specs.declared.grid.LayerBands.{LayerBands}
 use Rattle.leg_geom.specs.Pairs.{IsPair}
 use Rattle.leg_sweep.specs.Steps.Bands.{Waiting, waiting_at, range_at, share_band, reach_at, AreBandRanges, AreByLayer}
-use Rattle.leg_sweep.specs.Steps.Grid.{height_of, bands_at, AreSpans, IsGrid, BeginsIn, range_in, AreBandsBelow}
+use Rattle.leg_sweep.specs.Steps.Offsets.{offset_of}
+use Rattle.leg_sweep.specs.Steps.Grid.{bands_at, AreSpans, IsGrid, BeginsIn, range_in, AreBandsBelow}
 use Rattle.leg_sweep.proofs.Nearness.{y_gap_symmetric}
 use Rattle.leg_sweep.proofs.GridHeights.{quotient_rises, height_within}
 use Rattle.leg_sweep.proofs.GridBands.{bands_rise}
@@ -24,7 +25,7 @@ ranges_meet : (bands : LayerBands) (a b : RectModel) (reach : ℕ) → IsRect a 
     → (range_in bands b).first ≤ (range_in bands a).last
 ranges_meet bands a b reach is_a is_b begins within near =
     let far = height_within a.y1 a.y2 b.y1 b.y2 reach is_a.y2 is_b.y1 is_b.high near in
-    let up = quotient_rises bands.height (height_of b.y1 - bands.low) (height_of a.y2 + bands.reach - bands.low) begins.tall (omega (arith, far, within)) in
+    let up = quotient_rises bands.height (offset_of b.y1 - bands.low) (offset_of a.y2 + bands.reach - bands.low) begins.tall (omega (arith, far, within)) in
     let below = begins.below in
     omega (arith, up, below)
 

@@ -6,7 +6,8 @@ use Rattle.std.proofs.lemmas.List.Elements.{All-push, All-weaker}
 use Rattle.std.proofs.lemmas.List.Sums.{sum_by_push, sum_by-set}
 use Rattle.leg_geom.specs.Plane.{RectModel, IsRect}
 use Rattle.leg_sweep.specs.declared.grid.LayerSpan.{LayerSpan}
-use Rattle.leg_sweep.specs.Steps.Grid.{height_of, rect_height, no_span, span_at, span_with, IsSmall, IsSpan, AreSpans}
+use Rattle.leg_sweep.specs.Steps.Offsets.{offset_of}
+use Rattle.leg_sweep.specs.Steps.Grid.{rect_height, no_span, span_at, span_with, IsSmall, IsSpan, AreSpans}
 use Rattle.leg_sweep.proofs.GridHeights.{height_small}
 
 -- one more rectangle's height is small too
@@ -26,20 +27,20 @@ module _ {Item : Type 0} (rect_of : Item → RectModel) (layer_of : Item → ℕ
         let same : eqb (layer_of a) layer ≡ true = eq-eqb (layer_of a) layer here in
         let counted = rw same at (sum_by_push (λ b. cond (eqb (layer_of b) layer) 1 0) items a) in
         let added = rw same at (sum_by_push (λ b. cond (eqb (layer_of b) layer) (rect_height (rect_of b)) 0) items a) in
-        let bottom : ℕ = height_of (rect_of a).y1 in
+        let bottom : ℕ = offset_of (rect_of a).y1 in
         record {
           count = omega (arith, counted, so_far.count);
           total = omega (arith, added, so_far.total);
           lowest =
-              All-push (λ b. layer_of b ≡ layer → min span.lowest bottom ≤ height_of (rect_of b).y1) items a
-              (All-weaker (λ b. layer_of b ≡ layer → span.lowest ≤ height_of (rect_of b).y1)
-              (λ b. layer_of b ≡ layer → min span.lowest bottom ≤ height_of (rect_of b).y1)
+              All-push (λ b. layer_of b ≡ layer → min span.lowest bottom ≤ offset_of (rect_of b).y1) items a
+              (All-weaker (λ b. layer_of b ≡ layer → span.lowest ≤ offset_of (rect_of b).y1)
+              (λ b. layer_of b ≡ layer → min span.lowest bottom ≤ offset_of (rect_of b).y1)
               (λ b old there. omega (arith, old there)) items so_far.lowest)
               (λ there. omega arith);
           highest =
-              All-push (λ b. layer_of b ≡ layer → height_of (rect_of b).y1 ≤ max span.highest bottom) items a
-              (All-weaker (λ b. layer_of b ≡ layer → height_of (rect_of b).y1 ≤ span.highest)
-              (λ b. layer_of b ≡ layer → height_of (rect_of b).y1 ≤ max span.highest bottom)
+              All-push (λ b. layer_of b ≡ layer → offset_of (rect_of b).y1 ≤ max span.highest bottom) items a
+              (All-weaker (λ b. layer_of b ≡ layer → offset_of (rect_of b).y1 ≤ span.highest)
+              (λ b. layer_of b ≡ layer → offset_of (rect_of b).y1 ≤ max span.highest bottom)
               (λ b old there. omega (arith, old there)) items so_far.highest)
               (λ there. omega arith);
           small = small_more span (rect_of a) is so_far.small;
@@ -54,8 +55,8 @@ module _ {Item : Type 0} (rect_of : Item → RectModel) (layer_of : Item → ℕ
         record {
           count = omega (arith, counted, so_far.count);
           total = omega (arith, added, so_far.total);
-          lowest = All-push (λ b. layer_of b ≡ layer → span.lowest ≤ height_of (rect_of b).y1) items a so_far.lowest (λ there. absurd (other there));
-          highest = All-push (λ b. layer_of b ≡ layer → height_of (rect_of b).y1 ≤ span.highest) items a so_far.highest (λ there. absurd (other there));
+          lowest = All-push (λ b. layer_of b ≡ layer → span.lowest ≤ offset_of (rect_of b).y1) items a so_far.lowest (λ there. absurd (other there));
+          highest = All-push (λ b. layer_of b ≡ layer → offset_of (rect_of b).y1 ≤ span.highest) items a so_far.highest (λ there. absurd (other there));
           small = so_far.small;
         }
 

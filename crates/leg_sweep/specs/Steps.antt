@@ -1,4 +1,5 @@
 -- What the search knows on its way. No meaning of a public call speaks of it.
+pub mod Offsets
 pub mod Sweep
 pub mod Bands
 pub mod Grid

@@ -1,6 +1,6 @@
 //! An index of rectangles, which finds those near one.
 
-ghost use Rattle.std.specs.Prelude.{◌≡◌, ◌<◌, ◌≤◌, ◌+◌, ◌-◌, ◌^◌, ◌++◌, ◌∷◌, [], length, IfOk, OnErr};
+ghost use Rattle.std.specs.Prelude.{◌≡◌, ◌<◌, ◌≤◌, ◌-◌, ◌^◌, ◌++◌, ◌∷◌, [], length, IfOk, OnErr};
 ghost use Rattle.leg_sweep.specs.Near.{AreNear};
 ghost use Rattle.leg_sweep.specs.Steps.Index.{IsIndex};
 

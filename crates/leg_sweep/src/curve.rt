@@ -1,10 +1,7 @@
 //! An order in which rectangles that lie near one another come near one another.
 
-ghost use Rattle.std.specs.Prelude.{◌≤◌, ◌*◌};
-ghost use Rattle.leg_geom.specs.declared.limits.TheConstants.{COORDINATE_LIMIT};
-ghost use Rattle.leg_geom.specs.Plane.{IsCoordinate};
-
-use leg_geom::{COORDINATE_LIMIT, Rect};
+use crate::coordinates::offset;
+use leg_geom::Rect;
 use std::mem::swap;
 
 /// How many bits identify a column or a row of tiles. A tile has sides of 512 units.
@@ -30,14 +27,6 @@ pub(crate) fn curve_key(rect: &Rect) -> u64 {
     let sizes = size_class(x1.abs_diff(x2)) << CLASS_BITS | size_class(y1.abs_diff(y2));
     sizes << (2 * TILE_BITS)
         | place_on_curve((x1 + x2) >> BITS_IN_A_TILE, (y1 + y2) >> BITS_IN_A_TILE)
-}
-
-/// How far the coordinate lies above the lowest one.
-fn offset(coordinate: i64) -> u64
-    requires { IsCoordinate coordinate }
-    ensures { result ≤ 2 * COORDINATE_LIMIT }
-{
-    (coordinate + COORDINATE_LIMIT as i64) as u64
 }
 
 /// The class of an extent.

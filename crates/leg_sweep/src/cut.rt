@@ -1,6 +1,6 @@
 //! The rectangles of items, as far as their gaps tell them.
 
-ghost use Rattle.std.specs.Prelude.{◌≡◌, ◌≤◌, ◌<◌, ◌+◌, ◌-◌, ◌^◌, ◌≤ℤ◌, length, map, All, IfOk, OnOk};
+ghost use Rattle.std.specs.Prelude.{◌≡◌, ◌<◌, ◌+◌, ◌-◌, ◌^◌, ◌≤ℤ◌, length, map, All, IfOk, OnOk};
 ghost use Rattle.leg_sweep.specs.Steps.Cut.{cut_at, left_edge_at};
 
 use crate::rule::LayeredRule;

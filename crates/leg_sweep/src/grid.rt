@@ -2,11 +2,12 @@
 
 ghost use Rattle.std.specs.Prelude.{◌≡◌, ◌≤◌, ◌<◌, ◌+◌, ◌*◌, ◌/◌, ◌^◌, ◌++◌, length, map, replicate, sum_by, All, IfOk, OnOk};
 ghost use Rattle.std.specs.List.{range_with_len};
-ghost use Rattle.leg_geom.specs.Plane.{IsCoordinate, IsRect};
+ghost use Rattle.leg_geom.specs.Plane.{IsRect};
 ghost use Rattle.leg_sweep.specs.Steps.Bands.{empty_band, entries_at, AreBandRanges, AreEmpty, AreByLayer};
-ghost use Rattle.leg_sweep.specs.Steps.Grid.{height_of, bands_at, span_with, range_in, IsSmall, AreSpans, AreBandsOf, IsGrid, BeginsIn, AreBandsBelow};
+ghost use Rattle.leg_sweep.specs.Steps.Grid.{bands_at, span_with, range_in, IsSmall, AreSpans, AreBandsOf, IsGrid, BeginsIn, AreBandsBelow};
 
 use crate::band::{Band, BandRange};
+use crate::coordinates::offset;
 use crate::rule::LayeredRule;
 use leg_geom::COORDINATE_LIMIT;
 use std::alloc::{AllocError, Allocator};
@@ -50,7 +51,8 @@ pub(crate) fn ranges_and_bands<R: LayeredRule, A: Allocator + Copy>(
     ensures ranges { IfOk result (λ both. AreBandRanges (R.Holds (R.fixed rule.now)) (R.rect_of (R.fixed rule.now)) items.now both.0.items both.1.items) }
     ensures empty { IfOk result (λ both. AreEmpty both.1.items) }
     ensures entries { IfOk result (λ both. sum_by (entries_at both.0.items) (range_with_len 0 (length items.now)) ≤ 3 * length items.now) }
-    ensures layers { IfOk result (λ both. AreByLayer (map (R.layer_of (R.fixed rule.now)) items.now) (R.layer_reach_of (R.fixed rule.now)) both.0.items both.1.items) }
+    ensures layers { IfOk result
+        (λ both. AreByLayer (map (R.layer_of (R.fixed rule.now)) items.now) (R.layer_reach_of (R.fixed rule.now)) both.0.items both.1.items) }
 {
     let spans = layer_spans(alloc, items, rule)?;
     let grid = layer_bands(alloc, rule, &spans)?;
@@ -90,23 +92,14 @@ fn with_item<R: LayeredRule>(rule: &R, item: &R::Item, span: LayerSpan) -> Layer
     ensures is { result ≡ span_with span (R.rect_of (R.fixed rule.now) item.now) }
     ensures proper { IsRect (R.rect_of (R.fixed rule.now) item.now) }
 {
-    let bottom = above_lowest(rule.bottom(item));
-    let top = above_lowest(rule.top(item));
+    let bottom = offset(rule.bottom(item));
+    let top = offset(rule.top(item));
     LayerSpan {
         count: span.count + 1,
         total: span.total + u128::from(top - bottom),
         lowest: span.lowest.min(bottom),
         highest: span.highest.max(bottom),
     }
-}
-
-/// How far the y lies above the lowest coordinate.
-fn above_lowest(y: i64) -> u64
-    requires { IsCoordinate y }
-    ensures is { result ≡ height_of y }
-    ensures small { result ≤ 2 * COORDINATE_LIMIT }
-{
-    (y + COORDINATE_LIMIT as i64) as u64
 }
 
 /// The bands of each layer, layer after layer.
@@ -193,8 +186,8 @@ fn range_of<R: LayeredRule>(rule: &R, item: &R::Item, bands: LayerBands) -> Band
     requires { BeginsIn bands (R.rect_of (R.fixed rule.now) item.now) }
     ensures { result ≡ range_in bands (R.rect_of (R.fixed rule.now) item.now) }
 {
-    let bottom = above_lowest(rule.bottom(item)) - bands.low;
-    let top = above_lowest(rule.top(item)) + bands.reach - bands.low;
+    let bottom = offset(rule.bottom(item)) - bands.low;
+    let top = offset(rule.top(item)) + bands.reach - bands.low;
     let last = (top / bands.height).min(bands.count as u64 - 1);
     BandRange {
         first: bands.first + (bottom / bands.height) as u32,

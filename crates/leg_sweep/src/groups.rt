@@ -1,6 +1,6 @@
 //! How rectangles are grouped.
 
-ghost use Rattle.std.specs.Prelude.{◌≡◌, ◌<◌, ◌≤◌, ◌+◌, ◌-◌, ◌++◌, ◌^◌, length, map, drop, All, IfOk};
+ghost use Rattle.std.specs.Prelude.{◌≡◌, ◌<◌, ◌≤◌, ◌+◌, ◌-◌, ◌^◌, length, map, drop, All, IfOk};
 ghost use Rattle.std.specs.List.{range_with_len};
 ghost use Rattle.leg_sweep.specs.Steps.Bounds.{IsWithin};
 ghost use Rattle.leg_sweep.specs.Steps.Nodes.{AreGrouped, IsGrouped, AreNodesFrom, AreNodesOf};

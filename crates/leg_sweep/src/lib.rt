@@ -27,6 +27,7 @@ mod band;
 mod banded;
 mod bin_index;
 mod bounds;
+mod coordinates;
 mod crowding;
 mod curve;
 mod cut;

@@ -103,5 +103,6 @@ pub trait LayeredRule: PairRule {
 
     // Where the rule holds, both gaps are within the reach of the layer.
     ghost near_on_layer: { (r : Self) (a b : Self.Item) → Self.Holds r a b →
-        (x_gap (Self.rect_of r a) (Self.rect_of r b) ≤ layer_reach_of r (layer_of r a)) × (y_gap (Self.rect_of r a) (Self.rect_of r b) ≤ layer_reach_of r (layer_of r a)) };
+        (x_gap (Self.rect_of r a) (Self.rect_of r b) ≤ layer_reach_of r (layer_of r a))
+        × (y_gap (Self.rect_of r a) (Self.rect_of r b) ≤ layer_reach_of r (layer_of r a)) };
 }

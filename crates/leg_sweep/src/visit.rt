@@ -1,6 +1,6 @@
 //! A new item's visit to its bands, where it meets the items that wait.
 
-ghost use Rattle.std.specs.Prelude.{◌≡◌, ◌≤◌, ◌<◌, ◌+◌, ◌-◌, ◌^◌, ◌++◌, length, map, count_by, slice_set, Contains, OnOk};
+ghost use Rattle.std.specs.Prelude.{◌≡◌, ◌≤◌, ◌<◌, ◌+◌, ◌-◌, ◌^◌, length, map, count_by, slice_set, Contains, OnOk};
 ghost use Rattle.leg_geom.specs.Pairs.{IsPair};
 ghost use Rattle.leg_sweep.specs.Counts.{near_along_x, near_along_both};
 ghost use Rattle.leg_sweep.specs.Steps.Bands.{waiting_at, after_begin, after_pass, met, waiting_count, AreVisited, CanVisit};
@@ -30,13 +30,15 @@ pub(crate) fn visit<R: PairRule, S: PairSink, A: Allocator>(
     requires counts { R.tests_of rule.old ≤ R.looks_of rule.old }
     requires looks { R.looks_of rule.old + length (met bands.old range.first (range.last - range.first)) < 2 ^ 64 }
     ensures visited { let reach = (waiting_at bands.old range.first).reach in
-        OnOk result (AreVisited (λ x. test_at (near_along_x reach) (map (R.rect_of (R.fixed rule.old)) items.now) x new) range.first range.last new bands.old bands.new) }
+        OnOk result (AreVisited (λ x. test_at (near_along_x reach) (map (R.rect_of (R.fixed rule.old)) items.now) x new)
+        range.first range.last new bands.old bands.new) }
     ensures found { let met = met bands.old range.first (range.last - range.first) in let reach = (waiting_at bands.old range.first).reach in
         OnOk result (AreNewPairs S.Takes (IsPair (R.Holds (R.fixed rule.old)) items.now) met new
         (count_by (λ x. test_at (near_along_both reach) (map (R.rect_of (R.fixed rule.old)) items.now) x new) met) sink.old sink.new) }
     ensures looks { OnOk result (R.looks_of rule.new ≡ R.looks_of rule.old + length (met bands.old range.first (range.last - range.first))) }
     ensures tests { let reach = (waiting_at bands.old range.first).reach in OnOk result (R.tests_of rule.new ≡ R.tests_of rule.old
-        + count_by (λ x. test_at (near_along_both reach) (map (R.rect_of (R.fixed rule.old)) items.now) x new) (met bands.old range.first (range.last - range.first))) }
+        + count_by (λ x. test_at (near_along_both reach) (map (R.rect_of (R.fixed rule.old)) items.now) x new)
+        (met bands.old range.first (range.last - range.first))) }
     ensures left { let met = met bands.old range.first (range.last - range.first) in let reach = (waiting_at bands.old range.first).reach in
         OnOk result (waiting_count bands.new + length met ≡ waiting_count bands.old
         + count_by (λ x. test_at (near_along_x reach) (map (R.rect_of (R.fixed rule.old)) items.now) x new) met + (range.last + 1 - range.first)) }
@@ -63,8 +65,10 @@ fn begin<R: PairRule, S: PairSink, A: Allocator>(
     requires few { length items.now < 2 ^ 32 }
     requires room { length items.now ≤ S.room_of sink.old }
     requires there { number < length bands.old }
-    requires begun { let band = waiting_at bands.old number in CanMeet (R.Holds (R.fixed rule.old)) (R.rect_of (R.fixed rule.old)) items.now band.reach band.begun new }
-    requires passing { let band = waiting_at bands.old number in CanMeet (R.Holds (R.fixed rule.old)) (R.rect_of (R.fixed rule.old)) items.now band.reach band.passing new }
+    requires begun { let band = waiting_at bands.old number in
+        CanMeet (R.Holds (R.fixed rule.old)) (R.rect_of (R.fixed rule.old)) items.now band.reach band.begun new }
+    requires passing { let band = waiting_at bands.old number in
+        CanMeet (R.Holds (R.fixed rule.old)) (R.rect_of (R.fixed rule.old)) items.now band.reach band.passing new }
     requires apart { (x : _) → Contains (waiting_at bands.old number).begun x → Contains (waiting_at bands.old number).passing x → ⊥ }
     requires counts { R.tests_of rule.old ≤ R.looks_of rule.old }
     requires looks { R.looks_of rule.old + length (met bands.old number 0) < 2 ^ 64 }
@@ -99,7 +103,8 @@ fn pass<R: PairRule, S: PairSink, A: Allocator>(
     requires few { length items.now < 2 ^ 32 }
     requires room { length items.now ≤ S.room_of sink.old }
     requires there { number < length bands.old }
-    requires begun { let band = waiting_at bands.old number in CanMeet (R.Holds (R.fixed rule.old)) (R.rect_of (R.fixed rule.old)) items.now band.reach band.begun new }
+    requires begun { let band = waiting_at bands.old number in
+        CanMeet (R.Holds (R.fixed rule.old)) (R.rect_of (R.fixed rule.old)) items.now band.reach band.begun new }
     requires counts { R.tests_of rule.old ≤ R.looks_of rule.old }
     requires looks { R.looks_of rule.old + length (waiting_at bands.old number).begun < 2 ^ 64 }
     ensures bands { let band = waiting_at bands.old number in OnOk result (bands.new

@@ -10,8 +10,9 @@ use Rattle.leg_geom.specs.Pairs.{IsPair}
 use Rattle.leg_sweep.specs.Steps.Sweep.{ordered}
 use Rattle.leg_sweep.proofs.Lists.{Contains-nil, Contains-here, Contains-there, Contains-cons_cases, Contains-map, All-from_contains}
 use Rattle.leg_sweep.proofs.Turns.{ordered_below}
-use Rattle.leg_lib_records.specs.declared.records.Layer.{Layer}
+use Rattle.leg_lib_records.specs.Records.{LibraryModel}
 use Rattle.leg_rules.specs.declared.shape.Shape.{Shape}
+use Rattle.leg_wire_spacing.proofs.RequiredSpacing.{HaveSamePoints, required_alike}
 use Rattle.leg_wire.specs.Steps.TooCloseRule.{AreClose, AreClose-symmetric}
 use Rattle.leg_wire.specs.Steps.Kinds.{AreAlike, IsOfKind, AreKinds, AreMembers, pairs_between, pairs_among}
 
@@ -54,9 +55,18 @@ ordered-back i j =
     let high : max i j ≡ max j i = omega arith in
     rw (low, high) refl
 
-module _ (layers : List Layer) (reach : ℕ) where
+-- a shape and its kind have the same points
+same_points : (a kind : Shape) → AreAlike a kind → HaveSamePoints a kind
+same_points a kind is = record {
+  layer = is.layer;
+  owner = is.owner;
+  component = is.component;
+  points = λ p. (λ has. rw is.rect at has, λ has. rw is.rect has);
+}
+
+module _ (library : LibraryModel) where
   abbrev pub Close : Shape → Shape → Type 0
-  Close = AreClose layers reach
+  Close = AreClose library
 
   -- shapes of one kind are not compared with one another
   one_kind : (a b kind : Shape) → AreAlike a kind → AreAlike b kind → Close a b → ⊥
@@ -71,7 +81,7 @@ module _ (layers : List Layer) (reach : ℕ) where
       apart = λ one. close.comparable.apart (record { component = one.component; of_a = sym a_is.component ∙ one.of_a; of_b = sym b_is.component ∙ one.of_b });
       metal = λ first second. close.comparable.metal (rw a_is.owner at first) (rw b_is.owner at second);
     };
-    close = rw (a_is.layer, a_is.rect, b_is.rect) close.close;
+    close = rw (required_alike library a b c d (same_points a c a_is) (same_points b d b_is), a_is.rect, b_is.rect) close.close;
   }
 
   module _ (shapes kinds : List Shape) (numbers : List ℕ) (members : List (List ℕ)) (close : List (ℕ × ℕ))
@@ -129,7 +139,7 @@ module _ (layers : List Layer) (reach : ℕ) where
                   a_at = t.at;
                   b_at = s.at;
                   in_order = less;
-                  holds = AreClose-symmetric layers reach s.shape t.shape holds;
+                  holds = AreClose-symmetric library s.shape t.shape holds;
                 })
           ]
         ]
@@ -171,7 +181,7 @@ module _ (layers : List Layer) (reach : ℕ) where
                 absurd (one_kind pair.a pair.b c.kind c.alike (rw one at d.alike) pair.holds)
             | inr differ ↦
                 let back =
-                found_by j i pair.b pair.a pair.b_at pair.a_at (AreClose-symmetric layers reach pair.a pair.b pair.holds) (omega (arith, more, differ)) in
+                found_by j i pair.b pair.a pair.b_at pair.a_at (AreClose-symmetric library pair.a pair.b pair.holds) (omega (arith, more, differ)) in
                 rw (ordered-back j i, here) at back
           ]
         ]

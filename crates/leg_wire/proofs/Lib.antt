@@ -1,6 +1,7 @@
 -- Shorts, and shapes too near
 mod PairLists
 mod SpacingLists
+mod ReachBound
 -- Kinds of metal
 mod AlikeMetal
 mod KindPairs

@@ -7,8 +7,8 @@ use Rattle.leg_geom.specs.Plane.{RectModel}
 use Rattle.leg_rules.specs.declared.shape.Shape.{Shape}
 use Rattle.leg_sweep.specs.Near.{IsNear, AreNear}
 use Rattle.leg_sweep.proofs.Lists.{Contains-here}
-use Rattle.leg_wire_spacing.specs.Closer.{AreCloserThan}
-use Rattle.leg_wire_spacing.proofs.CloserGaps.{AreCloserThan-gaps}
+use Rattle.leg_rules.specs.Spacing.Closer.{AreCloserThan}
+use Rattle.leg_wire_spacing.proofs.CloserShapes.{AreCloserThan-gaps}
 
 -- the rectangles of shapes
 abbrev pub rects_of : List Shape → List RectModel

@@ -7,7 +7,7 @@ use leg_flat::{Flat, Owner, Shape};
 use leg_geom::Rect;
 use leg_lib_records::Library;
 use leg_sweep::BinIndex;
-use leg_wire_spacing::{are_closer_than, spacing_at};
+use leg_wire_spacing::{are_closer_than, greatest_spacing_on};
 use std::alloc::Allocator;
 
 /// The rectangle as metal of this net, as no piece of it and of no component.
@@ -24,7 +24,7 @@ fn net_metal(net: u32, layer: usize, rect: Rect) -> Shape
 }
 
 /// Whether metal of this net may lie there: the rectangle, which is on this layer, shares no point with a shape of another
-/// owner, and is no nearer to one than the layer's spacing. It looks at all shapes of the flat, and takes no memory.
+/// owner, and is no nearer to one than the greatest spacing on the layer. It looks at all shapes of the flat, and takes no memory.
 pub fn clean<A: Allocator + Copy>(
     library: &Library<'_, A>,
     flat: &Flat<A>,
@@ -34,7 +34,7 @@ pub fn clean<A: Allocator + Copy>(
 ) -> bool
     ensures { IsTrue result ↔ IsClean library.now flat.now net layer rect }
 {
-    let spacing = spacing_at(library.layers(), layer);
+    let spacing = greatest_spacing_on(library, layer);
     let metal = net_metal(net, layer, rect);
     for shape in flat.shapes() {
         if are_closer_than(spacing, &metal, shape) {
@@ -57,7 +57,7 @@ pub fn clean_indexed<A: Allocator + Copy>(
     requires { index.now ≡ map (λ shape. shape.rect) flat.now.shapes }
     ensures { IsTrue result ↔ IsClean library.now flat.now net layer rect }
 {
-    let spacing = spacing_at(library.layers(), layer);
+    let spacing = greatest_spacing_on(library, layer);
     let metal = net_metal(net, layer, rect);
     let shapes = flat.shapes();
     for number in index.near(&rect, spacing as u32) {

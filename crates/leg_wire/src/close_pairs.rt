@@ -1,6 +1,6 @@
 //! Comparable shapes that are too close.
 
-ghost use Rattle.std.specs.Prelude.{◌≡◌, ◌<◌, ◌^◌, ◌++◌, ◌↔◌, ℕ, [], length, map, All, AllPairs, Contains, IfOk, OnOk};
+ghost use Rattle.std.specs.Prelude.{◌≡◌, ◌<◌, ◌^◌, ◌++◌, ◌↔◌, ℕ, length, map, All, AllPairs, Contains, IfOk, OnOk};
 ghost use Rattle.leg_sweep.specs.Pairs.{Before, ArePairs};
 ghost use Rattle.leg_sweep.specs.Steps.Sweep.{ordered};
 ghost use Rattle.leg_wire.specs.Steps.Kinds.{pairs_between, pairs_among};
@@ -19,12 +19,12 @@ use std::alloc::{AllocError, Allocator};
 pub(crate) fn close_pairs<A: Allocator + Copy>(
     alloc: A,
     shapes: &[Shape],
-    rule: &mut TooClose<'_, '_>,
+    rule: &mut TooClose<'_, '_, A>,
 ) -> Result<Vec<(u32, u32), A>, AllocError>
     requires few { length shapes.now < 2 ^ 32 }
     requires untested { rule.old.tests ≡ 0 }
     requires unseen { rule.old.looks ≡ 0 }
-    ensures { IfOk result (λ found. ArePairs (AreClose rule.old.layers.now rule.old.reach) shapes.now found.items) }
+    ensures { IfOk result (λ found. ArePairs (AreClose rule.old.library.now) shapes.now found.items) }
 {
     if !are_many_alike(alloc, shapes)? {
         return pairs_in_bands(alloc, shapes, rule);

@@ -1,6 +1,6 @@
 //! Sets of pieces with their members.
 
-ghost use Rattle.std.specs.Prelude.{◌≡◌, ◌<◌, ◌^◌, ℕ, [], length, get_or, IfOk, OnOk};
+ghost use Rattle.std.specs.Prelude.{◌≡◌, ◌<◌, ◌^◌, [], length, get_or, IfOk, OnOk};
 ghost use Rattle.leg_wire.specs.Steps.Joins.{HasOneNumberMore};
 ghost use Rattle.leg_wire.specs.Steps.JoinSteps.{IsJoinStep};
 ghost use Rattle.leg_wire.specs.Steps.NumberSets.{AreTogether, AreUnited, AreGroups, HasGrown};

@@ -1,6 +1,6 @@
 //! Kinds of metal: where many shapes are equal, one of each kind stands for them.
 
-ghost use Rattle.std.specs.Prelude.{◌≡◌, ◌<◌, ◌≤◌, ◌+◌, ◌^◌, ◌++◌, ◌↔◌, List, All, IsTrue, length, IfOk, OnOk};
+ghost use Rattle.std.specs.Prelude.{◌≡◌, ◌<◌, ◌≤◌, ◌^◌, ◌++◌, ◌↔◌, List, All, IsTrue, length, IfOk, OnOk};
 ghost use Rattle.std.proofs.Common.{refl};
 ghost use Rattle.leg_wire.specs.Steps.Kinds.{AreAlike, AreSameMetal, IsOfKind, AreKinds};
 
@@ -30,7 +30,7 @@ impl Metal for Shape {
 
     fn is_like(&self, other: &Shape) -> bool {
         self.layer == other.layer
-            && are_same(&self.rect, &other.rect)
+            && self.rect.is(&other.rect)
             && self.owner == other.owner
             && are_same_components(self.component, other.component)
     }
@@ -54,7 +54,7 @@ impl Metal for PieceShape {
     ghost Alike = { λ a b. AreSameMetal a b };
 
     fn is_like(&self, other: &PieceShape) -> bool {
-        self.layer == other.layer && are_same(&self.rect, &other.rect)
+        self.layer == other.layer && self.rect.is(&other.rect)
     }
 
     fn digest(&self) -> u64 {
@@ -62,14 +62,6 @@ impl Metal for PieceShape {
     }
 
     ghost itself = { λ a. record { layer = refl; rect = refl } };
-}
-
-/// Whether the rectangles are the same.
-#[tactic(auto, using(leg_geom::proofs::Points::sides_same))]
-fn are_same(a: &Rect, b: &Rect) -> bool
-    ensures { IsTrue result ↔ a.now ≡ b.now }
-{
-    *a == *b
 }
 
 /// A number made of the sides of a rectangle and its layer.

@@ -1,6 +1,6 @@
 //! Numbers in lists: those of each kind, or of each set.
 
-ghost use Rattle.std.specs.Prelude.{◌≡◌, ◌<◌, ◌^◌, IsTrue, true, All, length, IfOk, OnOk};
+ghost use Rattle.std.specs.Prelude.{◌<◌, ◌^◌, IsTrue, All, length, IfOk, OnOk};
 ghost use Rattle.leg_wire.specs.Steps.Kinds.{AreMembers};
 ghost use Rattle.leg_wire.specs.Steps.NumberSets.{IsOneList, AreListsMerged};
 

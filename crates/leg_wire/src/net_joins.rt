@@ -1,6 +1,6 @@
 //! Which pieces of a net are joined, while the net gets wires.
 
-ghost use Rattle.std.specs.Prelude.{◌≡◌, ◌↔◌, ◌<◌, ◌≤◌, ◌+◌, ◌^◌, ◌++◌, [], IsTrue, true, length, get_or, map, Contains, IfOk, OnOk};
+ghost use Rattle.std.specs.Prelude.{◌≡◌, ◌↔◌, ◌<◌, ◌≤◌, ◌+◌, ◌^◌, ◌++◌, [], IsTrue, true, length, get_or, Contains, IfOk, OnOk};
 ghost use Rattle.leg_design_records.specs.Records.{DesignModel};
 ghost use Rattle.leg_rules.specs.Metal.Flat.{FlatModel};
 ghost use Rattle.leg_rules.specs.Joins.Touch.{piece_count, AreJoined};

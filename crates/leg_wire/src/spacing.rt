@@ -15,7 +15,7 @@ use leg_flat::{Flat, Shape};
 use leg_lib_records::Library;
 use std::alloc::{AllocError, Allocator};
 
-/// The pairs of comparable shapes that share a point, and those that share none and lie nearer than their layer's spacing:
+/// The pairs of comparable shapes that share a point, and those that share none and lie nearer than the spacing that is required of them:
 /// all that hold, each once, in order (lefdef's own rules). Shapes are given by their numbers in the flat, the lower
 /// one first.
 ///
@@ -28,7 +28,7 @@ pub fn spacing_faults<A: Allocator + Copy>(
     ensures { IfOk result (λ found. IsListOf (IsSpacingViolation library.now flat.now) found.items) }
 {
     let shapes = flat.shapes();
-    let mut rule = TooClose::new(library.layers());
+    let mut rule = TooClose::new(library);
     let close = close_pairs(alloc, shapes, &mut rule)?;
     let mut found = Vec::new(alloc);
     push_pairs(PairKind::Short, shapes, &close, &mut found)?;

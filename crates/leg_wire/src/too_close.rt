@@ -1,72 +1,59 @@
-//! Comparable shapes that share a point or are nearer than their layer's spacing.
+//! Comparable shapes that share a point or are nearer than the spacing that is required of them.
 
-ghost use Rattle.std.specs.Prelude.{◌≡◌, ◌≤◌, ◌+◌, length, min, All, unsigned_abs};
+ghost use Rattle.std.specs.Prelude.{◌≡◌, ◌≤◌, ◌+◌, ℕ, length, min};
 ghost use Rattle.std.proofs.Common.{ap};
-ghost use Rattle.leg_lib_records.specs.Sound.{IsSoundLayer};
-ghost use Rattle.leg_wire.specs.Steps.TooCloseRule.{AreClose, limit_at, AreClose-symmetric, AreClose-near, AreClose-near_on_layer};
+ghost use Rattle.leg_rules.specs.Spacing.RequiredSpacing.{greatest_spacing_on};
+ghost use Rattle.leg_wire.specs.Steps.TooCloseRule.{AreClose, AreClose-symmetric, AreClose-near, AreClose-near_on_layer};
 
 use leg_flat::Shape;
-use leg_lib_records::Layer;
+use leg_lib_records::Library;
 use leg_sweep::{LayeredRule, PairRule};
-use leg_wire_spacing::are_closer_than;
+use leg_wire_spacing::{are_closer_than, greatest_spacing_on, required_spacing};
+use std::alloc::Allocator;
 
-/// Holds of comparable shapes that share a point or lie nearer than the spacing of their layer, as far as that is within
-/// the reach.
+/// Holds of comparable shapes that share a point or lie nearer than the spacing that is required of them.
 #[derive(Drop)]
-pub(crate) struct TooClose<'l, 'a> {
-    layers: &'l [Layer<'a>],
+pub(crate) struct TooClose<'l, 'a, A: Allocator + Copy> {
+    library: &'l Library<'a, A>,
     reach: u32,
     tests: u64,
     looks: u64,
+    ghost bound: { (layer : ℕ) → greatest_spacing_on library.now layer ≤ reach },
 }
 
-impl<'l, 'a> TooClose<'l, 'a> {
-    /// The rule for these layers. Its reach is the greatest spacing of a layer.
-    pub(crate) fn new(layers: &'l [Layer<'a>]) -> TooClose<'l, 'a>
-        requires { All IsSoundLayer layers.now }
-        ensures layers { result.layers.now ≡ layers.now }
-        ensures reach { All (λ layer. unsigned_abs layer.spacing ≤ result.reach) layers.now }
+impl<'l, 'a, A: Allocator + Copy> TooClose<'l, 'a, A> {
+    /// The rule for this library. Its reach is the greatest spacing on a layer.
+    pub(crate) fn new(library: &'l Library<'a, A>) -> TooClose<'l, 'a, A>
+        ensures library { result.library.now ≡ library.now }
         ensures untested { result.tests ≡ 0 }
         ensures unseen { result.looks ≡ 0 }
     {
         TooClose {
-            layers,
-            reach: greatest_spacing(layers),
+            library,
+            reach: greatest_spacing(library),
             tests: 0,
             looks: 0,
         }
     }
-
-    /// The spacing of the layer of this number, within the reach; 0 where there is none.
-    fn limit(&self, layer: usize) -> u64
-        ensures is { result ≡ limit_at self.now.layers.now self.now.reach layer }
-        ensures within { result ≤ self.now.reach }
-    {
-        match self.layers.get(layer) {
-            Some(layer) => layer.spacing.unsigned_abs().min(u64::from(self.reach)),
-            None => 0,
-        }
-    }
 }
 
-/// The greatest spacing of a layer, and 0 where there is none.
-fn greatest_spacing(layers: &[Layer<'_>]) -> u32
-    requires { All IsSoundLayer layers.now }
-    ensures { All (λ layer. unsigned_abs layer.spacing ≤ result) layers.now }
+/// The greatest spacing on a layer, and 0 where there is none.
+fn greatest_spacing<A: Allocator + Copy>(library: &Library<'_, A>) -> u32
+    ensures { (layer : ℕ) → greatest_spacing_on library.now layer ≤ result }
 {
     let mut greatest = 0;
-    for layer in layers {
-        greatest = greatest.max(layer.spacing as u32);
+    for layer in 0..library.layers().len() {
+        greatest = greatest.max(greatest_spacing_on(library, layer) as u32);
     }
     greatest
 }
 
-impl<'l, 'a> PairRule for TooClose<'l, 'a> {
+impl<'l, 'a, A: Allocator + Copy> PairRule for TooClose<'l, 'a, A> {
     type Item = Shape;
 
     ghost fixed = { λ r. record r { tests = 0; looks = 0 } };
 
-    ghost Holds = { λ r a b. AreClose r.layers.now r.reach a b };
+    ghost Holds = { λ r a b. AreClose r.library.now a b };
 
     ghost rect_of = { λ r a. a.rect };
 
@@ -91,7 +78,7 @@ impl<'l, 'a> PairRule for TooClose<'l, 'a> {
 
     fn meets(&mut self, a: &Shape, b: &Shape) -> bool {
         self.tests += 1;
-        are_closer_than(self.limit(a.layer), a, b)
+        are_closer_than(required_spacing(self.library, a, b), a, b)
     }
 
     fn tests(&self) -> u64 {
@@ -102,29 +89,29 @@ impl<'l, 'a> PairRule for TooClose<'l, 'a> {
         self.looks
     }
 
-    ghost symmetric = { λ r a b h. AreClose-symmetric _ _ _ _ h };
+    ghost symmetric = { λ r a b h. AreClose-symmetric r.library.now a b h };
 
-    ghost near = { λ r a b h. AreClose-near _ _ _ _ h };
+    ghost near = { λ r a b h. AreClose-near r.library.now r.reach r.bound a b h };
 }
 
 // What lies on no layer of the library lies on one more.
-impl<'l, 'a> LayeredRule for TooClose<'l, 'a> {
-    ghost layers_of = { λ r. length r.layers.now + 1 };
+impl<'l, 'a, A: Allocator + Copy> LayeredRule for TooClose<'l, 'a, A> {
+    ghost layers_of = { λ r. length r.library.now.layers + 1 };
 
-    ghost layer_of = { λ r a. min a.layer (length r.layers.now) };
+    ghost layer_of = { λ r a. min a.layer (length r.library.now.layers) };
 
-    ghost layer_reach_of = { λ r layer. limit_at r.layers.now r.reach layer };
+    ghost layer_reach_of = { λ r layer. greatest_spacing_on r.library.now layer };
 
     fn layers(&self) -> usize {
-        self.layers.len() + 1
+        self.library.layers().len() + 1
     }
 
     fn layer(&self, item: &Shape) -> usize {
-        item.layer.min(self.layers.len())
+        item.layer.min(self.library.layers().len())
     }
 
     fn layer_reach(&self, layer: usize) -> u64 {
-        self.limit(layer)
+        greatest_spacing_on(self.library, layer)
     }
 
     fn bottom(&self, item: &Shape) -> i64 {
@@ -135,7 +122,7 @@ impl<'l, 'a> LayeredRule for TooClose<'l, 'a> {
         item.rect.y2()
     }
 
-    ghost layered = { λ r a b h. ap (λ layer. min layer (length r.layers.now)) h.comparable.layer };
+    ghost layered = { λ r a b h. ap (λ layer. min layer (length r.library.now.layers)) h.comparable.layer };
 
-    ghost near_on_layer = { λ r a b h. AreClose-near_on_layer _ _ _ _ h };
+    ghost near_on_layer = { λ r a b h. AreClose-near_on_layer r.library.now a b h };
 }

@@ -6,12 +6,11 @@ use Rattle.leg_geom.specs.Plane.{RectModel, SharePoint}
 use Rattle.leg_lib_records.specs.Records.{LibraryModel}
 use Rattle.leg_rules.specs.declared.owner.Owner.TheVariants.{Net}
 use Rattle.leg_rules.specs.declared.shape.Shape.{Shape}
+use Rattle.leg_rules.specs.Spacing.RequiredSpacing.{greatest_spacing_on}
 use Rattle.leg_rules.specs.Spacing.Violations.{AreNearer}
+use Rattle.leg_rules.specs.Spacing.Closer.{AreCloserThan}
 use Rattle.leg_rules.specs.Spacing.Clean.{net_metal, IsClean}
 use Rattle.leg_wire_spacing.specs.Access.{alone}
-use Rattle.leg_wire_spacing.specs.Closer.{AreCloserThan}
-use Rattle.leg_wire_spacing.specs.LayerSpacing.{spacing_at}
-use Rattle.leg_wire_spacing.proofs.CleanMetal.{none_close, is_clean}
 
 only_itself : (a b : Shape) → Contains (a ∷ []) b → a ≡ b
 only_itself a b has = by has.0 has.1 has.2 where
@@ -23,18 +22,18 @@ module _ (library : LibraryModel) (shape : Shape) (layer : ℕ) (rect : RectMode
   -- the shape lies on the layer, and so near that metal of another owner is not clean
   pub record IsNear : Type 0 where
     pub layer_is : layer ≡ shape.layer
-    pub close : SharePoint rect shape.rect ⊎ AreNearer (spacing_at library.layers layer) rect shape.rect
+    pub close : SharePoint rect shape.rect ⊎ AreNearer (greatest_spacing_on library layer) rect shape.rect
 
-  clean_where_far : (net : ℕ) → ¬ AreCloserThan (spacing_at library.layers layer) (net_metal net layer rect) shape
+  clean_where_far : (net : ℕ) → ¬ AreCloserThan (greatest_spacing_on library layer) (net_metal net layer rect) shape
       → IsClean library (alone shape) net layer rect
-  clean_where_far net far =
-      is_clean library (alone shape) net layer rect
-      (λ s has. subst (λ (s : Shape). ¬ AreCloserThan (spacing_at library.layers layer) (net_metal net layer rect) s) (only_itself shape s has) far)
+  clean_where_far net far = record {
+    far = λ s has. subst (λ (s : Shape). ¬ AreCloserThan (greatest_spacing_on library layer) (net_metal net layer rect) s) (only_itself shape s has) far;
+  }
 
   -- where it is, no metal of another owner
   pub not_clean_near : IsNear → (net : ℕ) → Net net ≢ shape.owner → ¬ IsClean library (alone shape) net layer rect
   not_clean_near near net other clean =
-      none_close library (alone shape) net layer rect clean shape (0, omega arith, refl) (record {
+      clean.far shape (0, omega arith, refl) (record {
         comparable = record {
           layer = near.layer_is;
           owners = other;

@@ -1,3 +1,3 @@
-pub mod CloserGaps
-pub mod CleanMetal
+pub mod RequiredSpacing
+pub mod CloserShapes
 mod AccessBeside

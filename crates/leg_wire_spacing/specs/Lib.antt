@@ -1,3 +1,1 @@
-pub mod LayerSpacing
-pub mod Closer
 pub mod Access

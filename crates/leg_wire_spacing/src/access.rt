@@ -5,7 +5,7 @@ ghost use Rattle.leg_wire_spacing.specs.Access.{Admits, alone};
 ghost use Rattle.leg_rules.specs.Spacing.Clean.{IsClean};
 
 use crate::closer::are_close;
-use crate::layer_spacing::spacing_at;
+use crate::spacing::greatest_spacing_on;
 use leg_geom::Rect;
 use leg_lib_records::Library;
 use leg_rules::{Owner, Shape};
@@ -55,7 +55,7 @@ pub fn access_beside<A: Allocator + Copy>(
 ) -> Access
     ensures { (net : ℕ) → Admits result net ↔ IsClean library.now (alone shape.now) net layer rect.now }
 {
-    let spacing = spacing_at(library.layers(), layer);
+    let spacing = greatest_spacing_on(library, layer);
     if layer != shape.layer || !are_close(spacing, rect, &shape.rect) {
         return Access::Free;
     }

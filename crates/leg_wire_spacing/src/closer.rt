@@ -3,7 +3,7 @@
 ghost use Rattle.std.specs.Prelude.{◌<◌, ◌^◌, ◌↔◌, ◌⊎◌, IsTrue};
 ghost use Rattle.leg_geom.specs.Plane.{SharePoint};
 ghost use Rattle.leg_rules.specs.Spacing.Violations.{AreNearer};
-ghost use Rattle.leg_wire_spacing.specs.Closer.{AreCloserThan};
+ghost use Rattle.leg_rules.specs.Spacing.Closer.{AreCloserThan};
 
 use crate::comparable::are_comparable;
 use leg_geom::Rect;

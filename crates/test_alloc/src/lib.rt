@@ -1,8 +1,6 @@
 //! An allocator for tests, which refuses the growths that a test names.
 #![tactic(auto)]
 
-ghost use Rattle.std.specs.Prelude.{◌≡◌};
-
 use std::alloc::{AllocError, Allocator};
 use std::cell::Cell;
 

@@ -1,6 +1,6 @@
 //! A call that is made again and again, each time with another growth refused.
 
-ghost use Rattle.std.specs.Prelude.{◌≡◌, ◌<◌, ◌≤◌, ◌↔◌, IsTrue, true, false, IfOk, IfErr, IsOk};
+ghost use Rattle.std.specs.Prelude.{◌≡◌, ◌<◌, ◌≤◌, ◌↔◌, IsTrue, false, IfOk, IfErr, IsOk};
 
 use std::marker::Model;
 

@@ -13,6 +13,7 @@ use Rattle.leg_grammar.specs.Def.Terminal.{terminal_form, at_no_terminal}
 use Rattle.leg_grammar.specs.Def.Wiring.{is_wiring, wiring_at}
 use Rattle.leg_grammar.specs.Def.Section.{section_at}
 use Rattle.leg_design_records.specs.Records.{NetModel, net_names, terminal_count, wire_count}
+use Rattle.leg_design_records.specs.Names.{net_section}
 
 -- what the clauses before gave
 pub record NetParts : Type 0 where
@@ -105,9 +106,6 @@ net_entry scope special others nets words = do
   few ← unless (are_too_many others (nets ++ net ∷ []))
   Some (nets ++ net ∷ [], statement.1)
 
-abbrev pub section_word : Bool → List ℕ
-section_word special = if special then codes "SPECIALNETS" else codes "NETS"
-
 -- NETS number ; entries END NETS, or the same with SPECIALNETS, where the other section has these entries
 unfoldable pub nets_at : NetScopeModel → Bool → List NetModel → Words → Option (List NetModel × Words)
-nets_at scope special others words = section_at (section_word special) (net_entry scope special others) [] words
+nets_at scope special others words = section_at (net_section special) (net_entry scope special others) [] words

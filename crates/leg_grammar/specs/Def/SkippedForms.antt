@@ -1,7 +1,7 @@
 -- What is read past of a DEF text (lefdef's own rule).
 use Rattle.std.specs.Prelude.{Bool, ◌||◌, if◌then◌else◌, [], ◌∷◌, Option, None, Some, codes}
-use Rattle.leg_lex.specs.Words.{Words, ◌>>=◌, is_at, keyword_at, end_at}
-use Rattle.leg_lex.specs.Past.{past}
+use Rattle.leg_lex.specs.Words.{Words, ◌>>=◌, is_at, end_at}
+use Rattle.leg_lex.specs.Past.{past, past_extension}
 use Rattle.leg_lex.specs.Statements.{statement_at}
 
 -- statements without effect
@@ -21,15 +21,9 @@ unfoldable pub past_def_section : Words → Option (Unit {0} × Words)
 past_def_section [] = None
 past_def_section (keyword ∷ words) = past (end_at keyword) words
 
--- BEGINEXT .. ENDEXT
-unfoldable pub past_def_extension : Words → Option (Unit {0} × Words)
-past_def_extension words = do
-  start ← keyword_at (codes "BEGINEXT") words
-  past (keyword_at (codes "ENDEXT")) start.1
-
 -- what is read past
 unfoldable pub past_def_form : Words → Option (Unit {0} × Words)
 past_def_form words =
     if is_past_statement words then (statement_at words >>= λ statement. Some (tt, statement.1))
     else (if is_past_section words then past_def_section words
-    else (if is_at (codes "BEGINEXT") words then past_def_extension words else None))
+    else (if is_at (codes "BEGINEXT") words then past_extension words else None))

@@ -2,7 +2,7 @@
 use Rattle.std.specs.Prelude.{ℕ, Bool, true, ◌||◌, if◌then◌else◌, List, [], ◌∷◌, Option, Some, codes}
 use Rattle.leg_lex.specs.Words.{Words, ◌>>=◌, is_keyword, is_at, next_at, keyword_at, name_at, end_at, end_of, nothing_at}
 use Rattle.leg_lex.specs.Until.{until}
-use Rattle.leg_lex.specs.Past.{past}
+use Rattle.leg_lex.specs.Past.{past, past_extension}
 use Rattle.leg_lex.specs.Statements.{statement_at}
 use Rattle.leg_lib_records.specs.Records.{RawLibraryModel}
 use Rattle.leg_grammar.specs.Lef.Layer.{with_layer}
@@ -23,12 +23,6 @@ past_lef_section keyword words = do
   start ← keyword_at keyword words
   past (end_at keyword) start.1
 
--- BEGINEXT .. ENDEXT is read past
-unfoldable pub past_lef_extension : Words → Option (Unit {0} × Words)
-past_lef_extension words = do
-  start ← keyword_at (codes "BEGINEXT") words
-  past (keyword_at (codes "ENDEXT")) start.1
-
 -- any other form is a statement
 unfoldable pub past_statement : Words → Option (Unit {0} × Words)
 past_statement words = do
@@ -42,7 +36,7 @@ past_lef_form words =
     else (if is_at (codes "UNITS") words then past_lef_section (codes "UNITS") words
     else (if is_at (codes "PROPERTYDEFINITIONS") words then past_lef_section (codes "PROPERTYDEFINITIONS") words
     else (if is_at (codes "SPACING") words then past_lef_section (codes "SPACING") words
-    else (if is_at (codes "BEGINEXT") words then past_lef_extension words
+    else (if is_at (codes "BEGINEXT") words then past_extension words
     else past_statement words))))
 
 -- one form, which adds to the library that was read before it

@@ -3,8 +3,8 @@ use Rattle.std.specs.Prelude.{ℕ, List, ◌++◌, length, Some, codes, decimal}
 use Rattle.std.specs.List.{flat_map}
 use Rattle.leg_design_records.specs.Records.{DesignModel}
 use Rattle.leg_rules.specs.Metal.Flat.{FlatModel}
-use Rattle.leg_output.specs.Names.{net_name, piece_text}
-use Rattle.leg_rules.specs.Names.{name_by}
+use Rattle.leg_output.specs.Names.{piece_text}
+use Rattle.leg_design_records.specs.Names.{net_name, name_by}
 use Rattle.leg_output.specs.Lines.{piece_at}
 use Rattle.leg_output.specs.Text.Whole.{design_text}
 

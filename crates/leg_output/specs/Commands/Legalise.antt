@@ -5,7 +5,7 @@ use Rattle.std.specs.Fmt.{signed_decimal}
 use Rattle.leg_design_records.specs.Records.{DesignModel}
 use Rattle.leg_design_records.specs.declared.records.Component.{Component}
 use Rattle.leg_design_records.specs.declared.fault.Fault.{Fault}
-use Rattle.leg_rules.specs.Names.{component_name}
+use Rattle.leg_design_records.specs.Names.{component_name}
 use Rattle.leg_output.specs.Lines.{violations_text}
 use Rattle.leg_output.specs.Text.Whole.{design_text}
 

@@ -3,7 +3,7 @@ use Rattle.std.specs.Prelude.{ℕ, List, ◌++◌, length, Some, codes, decimal}
 use Rattle.leg_design_records.specs.Records.{DesignModel}
 use Rattle.leg_design_records.specs.declared.fault.Fault.{Fault}
 use Rattle.leg_rules.specs.Metal.Flat.{FlatModel}
-use Rattle.leg_output.specs.Names.{net_name}
+use Rattle.leg_design_records.specs.Names.{net_name}
 use Rattle.leg_output.specs.Lines.{violations_text}
 
 -- the violations of all kinds but Open, whose lines name shapes of this flat, and their number

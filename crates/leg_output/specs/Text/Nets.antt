@@ -5,19 +5,16 @@ use Rattle.std.specs.List.{flat_map}
 use Rattle.leg_lex.specs.Words.{Words}
 use Rattle.leg_output.specs.Words.{spaced, words_in_lines}
 use Rattle.leg_design_records.specs.declared.records.Terminal.{Terminal}
-use Rattle.leg_design_records.specs.declared.records.Terminal.TheVariants.{Comp, Pin}
 use Rattle.leg_design_records.specs.declared.records.Wire.{Wire}
 use Rattle.leg_design_records.specs.Records.{DesignModel, NetModel}
-use Rattle.leg_output.specs.Names.{component_pin_name}
-use Rattle.leg_rules.specs.Names.{component_name, design_pin_name}
+use Rattle.leg_design_records.specs.Names.{terminal_names}
 use Rattle.leg_output.specs.Text.Clauses.{clause_words, kept_clause}
 use Rattle.leg_output.specs.Text.Wires.{wire_words}
 
 -- ( component pin ), or ( PIN pin ) for a pin of the design
 abbrev pub terminal_words : DesignModel → Terminal → Words
-terminal_words design (Comp component pin) =
-    codes "(" ∷ component_name design component ∷ component_pin_name design component pin ∷ codes ")" ∷ []
-terminal_words design (Pin pin) = codes "(" ∷ codes "PIN" ∷ design_pin_name design pin ∷ codes ")" ∷ []
+terminal_words design terminal =
+    codes "(" ∷ (terminal_names design terminal).0 ∷ (terminal_names design terminal).1 ∷ codes ")" ∷ []
 
 -- the words after the dash, up to the wires: name, terminals, and USE where it was kept
 abbrev pub net_head : DesignModel → NetModel → Words

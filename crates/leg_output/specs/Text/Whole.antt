@@ -7,6 +7,7 @@ use Rattle.leg_lib_records.specs.Records.{ViaModel}
 use Rattle.leg_design_records.specs.declared.records.Row.{Row}
 use Rattle.leg_design_records.specs.declared.records.Component.{Component}
 use Rattle.leg_design_records.specs.Records.{DesignModel, TrackModel, PinModel, BlockageModel, NetModel}
+use Rattle.leg_design_records.specs.Names.{net_section}
 use Rattle.leg_output.specs.Text.Header.{header_text}
 use Rattle.leg_output.specs.Text.Rows.{row_words}
 use Rattle.leg_output.specs.Text.Tracks.{track_words}
@@ -36,10 +37,6 @@ pins_text design pins = section_text (codes "PINS") (λ pin. line (pin_words des
 abbrev pub blockages_text : DesignModel → List BlockageModel → List ℕ
 blockages_text design blockages =
     section_text (codes "BLOCKAGES") (λ blockage. line (blockage_words design blockage)) blockages
-
-abbrev pub net_section : Bool → List ℕ
-net_section false = codes "NETS"
-net_section true = codes "SPECIALNETS"
 
 abbrev pub nets_text : DesignModel → Bool → List NetModel → List ℕ
 nets_text design special nets = section_text (net_section special) (net_text design special) nets

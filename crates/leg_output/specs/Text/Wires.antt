@@ -13,7 +13,7 @@ use Rattle.leg_design_records.specs.Wires.{default_extension}
 use Rattle.leg_design_records.specs.WellFormedNets.{written}
 use Rattle.leg_design_records.specs.Records.{DesignModel}
 use Rattle.leg_output.specs.Names.{layer_name}
-use Rattle.leg_rules.specs.Names.{design_via, via_name}
+use Rattle.leg_design_records.specs.Names.{design_via, via_name}
 use Rattle.leg_output.specs.Text.Points.{spot_words}
 
 -- a number, where there is one

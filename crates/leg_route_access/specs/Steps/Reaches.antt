@@ -1,13 +1,12 @@
 -- How far metal on a layer lies from the points of the slots that add it.
-use Rattle.std.specs.Prelude.{◌≡◌, ℕ, ◌+◌, ◌-◌, ◌<◌, ◌≤◌, Bool, true, false, List, ℤ, pos, ◌-ℤ◌, ◌+ℤ◌, ◌≤ℤ◌, Option, None, Some, slice_get, length, All}
+use Rattle.std.specs.Prelude.{◌≡◌, ℕ, ◌+◌, ◌-◌, ◌<◌, ◌≤◌, Bool, true, false, ℤ, pos, ◌-ℤ◌, ◌+ℤ◌, ◌≤ℤ◌, Option, None, Some, slice_get, length, All}
 use Rattle.leg_lex.specs.declared.limits.TheConstants.{NUMBER_LIMIT}
 use Rattle.leg_geom.specs.Plane.{RectModel}
 use Rattle.leg_lib_records.specs.declared.records.Shape.{Shape}
-use Rattle.leg_lib_records.specs.Records.{ViaModel}
+use Rattle.leg_lib_records.specs.Records.{ViaModel, LibraryModel}
 use Rattle.leg_lib_records.specs.declared.records.Direction.TheVariants.{Horizontal, Vertical}
-use Rattle.leg_lib_records.specs.declared.records.Layer.{Layer}
-use Rattle.leg_wire_spacing.specs.LayerSpacing.{spacing_at}
 use Rattle.leg_route_grid.specs.declared.layers.RoutingLayer.{RoutingLayer}
+use Rattle.leg_rules.specs.Spacing.RequiredSpacing.{greatest_spacing_on}
 use Rattle.leg_rules.specs.Route.StepWires.{half}
 use Rattle.leg_route_grid.specs.Steps.Grid.{GridModel}
 
@@ -53,9 +52,9 @@ pub record ReachesMetal (grid : GridModel) (k layer : ℕ) (reach : Option ℤ) 
       → slice_get grid.design.library.vias via ≡ Some said
       → All (ReachesShape reach layer) said.shapes
 
--- metal on the layer of this number that lies farther apart than this along an axis keeps the spacing
-abbrev pub clear_at : List Layer → ℕ → ℕ
-clear_at layers number = spacing_at layers number - 1
+-- metal on the layer of this number that lies farther apart than this along an axis keeps each spacing on it
+abbrev pub clear_at : LibraryModel → ℕ → ℕ
+clear_at library number = greatest_spacing_on library number - 1
 
 abbrev pub one_if : Bool → ℕ
 one_if true = 1

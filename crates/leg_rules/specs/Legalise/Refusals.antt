@@ -1,11 +1,11 @@
 -- When the legaliser refuses a design (lefdef's own rules).
-use Rattle.std.specs.Prelude.{◌≡◌, ℕ, pos, ◌≤◌, ◌++◌, ◌∷◌, List, ◌*ℤ◌, Contains, Some, slice_get}
+use Rattle.std.specs.Prelude.{◌≡◌, ℕ, pos, ◌≤◌, ◌++◌, ◌∷◌, List, ◌*ℤ◌, All, Contains, Some, slice_get}
 use Rattle.leg_geom.specs.declared.place.Place.{Place}
 use Rattle.leg_lib_records.specs.declared.records.Site.{Site}
 use Rattle.leg_lib_records.specs.Measure.{ExtentModel}
 use Rattle.leg_design_records.specs.Records.{DesignModel}
 use Rattle.leg_design_records.specs.declared.fault.Fault.{Fault}
-use Rattle.leg_design_records.specs.declared.fault.Fault.TheVariants.{Unplaced, Outside, OffSite, Overlap, Blocked, Short, TooNear, OpenNet}
+use Rattle.leg_design_records.specs.Violation.{components_of}
 use Rattle.leg_design_records.specs.declared.records.Row.{Row}
 use Rattle.leg_rules.specs.Placement.Violations.{IsPlacementViolation, IsLegallyPlaced}
 use Rattle.leg_design_records.specs.Movable.{IsMovable}
@@ -14,23 +14,12 @@ use Rattle.leg_rules.specs.Legalise.Free.{IsFree}
 use Rattle.leg_rules.specs.Legalise.Turns.{IsOrderOfTaking}
 use Rattle.leg_rules.specs.Legalise.Run.{LegaliseRun}
 
--- a violation of placement concerns only components that stay
-abbrev pub ConcernsStaying : DesignModel → Fault → Type 0
-ConcernsStaying design (Unplaced c) = ¬ IsMovable design c
-ConcernsStaying design (Outside c) = ¬ IsMovable design c
-ConcernsStaying design (OffSite c) = ¬ IsMovable design c
-ConcernsStaying design (Overlap a b) = (¬ IsMovable design a) × (¬ IsMovable design b)
-ConcernsStaying design (Blocked c) = ¬ IsMovable design c
-ConcernsStaying design (Short a b) = ⊥
-ConcernsStaying design (TooNear a b) = ⊥
-ConcernsStaying design (OpenNet n k) = ⊥
-
--- a violation of placement holds, and no component that moves can mend it
+-- a violation of placement holds, and each component that it names stays: no component that moves can mend it
 pub record IsStayingViolation (design : DesignModel) (fault : Fault) : Type 0 where
   pub holds : IsPlacementViolation design fault
-  pub staying : ConcernsStaying design fault
+  pub staying : All (λ c. ¬ IsMovable design c) (components_of fault)
 
--- no violation holds that concerns only components that stay
+-- no violation of placement holds that names only components that stay
 abbrev pub NoneStaying : DesignModel → Type 0
 NoneStaying design = (fault : Fault) → ¬ IsStayingViolation design fault
 

@@ -9,6 +9,7 @@ use Rattle.leg_design_records.specs.declared.records.Terminal.{Terminal}
 use Rattle.leg_design_records.specs.declared.records.Terminal.TheVariants.{Comp, Pin}
 use Rattle.leg_design_records.specs.Terminals.{is_same_terminal, is_among}
 use Rattle.leg_design_records.specs.Records.{DesignModel, NetModel}
+use Rattle.leg_design_records.specs.Names.{master_pin}
 use Rattle.leg_rules.specs.declared.owner.Owner.{Owner}
 use Rattle.leg_rules.specs.declared.owner.Owner.TheVariants as owners
 use Rattle.leg_rules.specs.Metal.Nets.{number_of_special, terminals_of}
@@ -40,13 +41,6 @@ abbrev pub place_among : Terminal → List Terminal → Option ℕ
 place_among terminal [] = None
 place_among terminal (first ∷ terminals) =
     if is_same_terminal terminal first then Some 0 else option_map suc (place_among terminal terminals)
-
--- the pin of a component's macro
-abbrev pub master_pin : DesignModel → ℕ → ℕ → Option library.MasterPinModel
-master_pin design c k = do
-  component ← slice_get design.components c
-  master ← slice_get design.library.masters component.master
-  slice_get master.pins k
 
 -- what a pin of no net supplies: lone pins of components are shared by their USE
 abbrev pub owner_by_use : Terminal → Option library.MasterPinModel → Owner

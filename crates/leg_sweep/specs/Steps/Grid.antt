@@ -1,19 +1,16 @@
 -- The bands of each layer, and what they are made from. A height is above the lowest coordinate.
-use Rattle.std.specs.Prelude.{◌≡◌, ℕ, ◌+◌, ◌-◌, ◌*◌, ◌/◌, ◌^◌, ◌≤◌, ◌<◌, ◌==◌, min, max, ℤ, pos, ◌+ℤ◌, unsigned_abs, List, length, take, count_by, sum_by, slice_index_or, All, if◌then◌else◌}
+use Rattle.std.specs.Prelude.{◌≡◌, ℕ, ◌+◌, ◌-◌, ◌*◌, ◌/◌, ◌^◌, ◌≤◌, ◌<◌, ◌==◌, min, max, List, length, take, count_by, sum_by, slice_index_or, All, if◌then◌else◌}
 use Rattle.leg_geom.specs.declared.limits.TheConstants.{COORDINATE_LIMIT}
 use Rattle.leg_geom.specs.Plane.{RectModel, IsRect}
 use Rattle.leg_sweep.specs.declared.band.BandRange.{BandRange}
 use Rattle.leg_sweep.specs.declared.grid.LayerSpan.{LayerSpan}
 use Rattle.leg_sweep.specs.declared.grid.LayerBands.{LayerBands}
+use Rattle.leg_sweep.specs.Steps.Offsets.{offset_of}
 use Rattle.leg_sweep.specs.Steps.Bands.{Waiting, empty_band, waiting_at, AreEmpty}
-
--- how far a y lies above the lowest coordinate
-abbrev pub height_of : ℤ → ℕ
-height_of y = unsigned_abs (y +ℤ pos COORDINATE_LIMIT)
 
 -- the height of a rectangle
 abbrev pub rect_height : RectModel → ℕ
-rect_height rect = height_of rect.y2 - height_of rect.y1
+rect_height rect = offset_of rect.y2 - offset_of rect.y1
 
 -- what no items span
 abbrev pub no_span : LayerSpan
@@ -27,8 +24,8 @@ abbrev pub span_with : LayerSpan → RectModel → LayerSpan
 span_with span rect = record {
   count = span.count + 1;
   total = span.total + rect_height rect;
-  lowest = min span.lowest (height_of rect.y1);
-  highest = max span.highest (height_of rect.y1);
+  lowest = min span.lowest (offset_of rect.y1);
+  highest = max span.highest (offset_of rect.y1);
 }
 
 -- no height is above that of the highest coordinate
@@ -40,8 +37,8 @@ pub record IsSmall (span : LayerSpan) : Type 0 where
 pub record IsSpan {Item : Type 0} (rect_of : Item → RectModel) (layer_of : Item → ℕ) (items : List Item) (layer : ℕ) (span : LayerSpan) : Type 0 where
   pub count : span.count ≡ count_by (λ a. layer_of a == layer) items
   pub total : span.total ≡ sum_by (λ a. if layer_of a == layer then rect_height (rect_of a) else 0) items
-  pub lowest : All (λ a. layer_of a ≡ layer → span.lowest ≤ height_of (rect_of a).y1) items
-  pub highest : All (λ a. layer_of a ≡ layer → height_of (rect_of a).y1 ≤ span.highest) items
+  pub lowest : All (λ a. layer_of a ≡ layer → span.lowest ≤ offset_of (rect_of a).y1) items
+  pub highest : All (λ a. layer_of a ≡ layer → offset_of (rect_of a).y1 ≤ span.highest) items
   pub small : IsSmall span
 
 -- what the items on each of this many layers span, where all items lie
@@ -78,16 +75,16 @@ pub record IsGrid (reach_of : ℕ → ℕ) (layers : ℕ) (spans : List LayerSpa
 -- The rectangle begins in one of the bands. Their numbers are 32 bits long.
 pub record BeginsIn (bands : LayerBands) (rect : RectModel) : Type 0 where
   pub tall : 0 < bands.height
-  pub above : bands.low ≤ height_of rect.y1
-  pub below : (height_of rect.y1 - bands.low) / bands.height < bands.count
+  pub above : bands.low ≤ offset_of rect.y1
+  pub below : (offset_of rect.y1 - bands.low) / bands.height < bands.count
   pub within : bands.reach ≤ 2 * COORDINATE_LIMIT
   pub numbers : bands.first + bands.count < 2 ^ 32
 
 -- from the band of the bottom edge to that of what lies the reach above the top edge, or to the topmost
 abbrev pub range_in : LayerBands → RectModel → BandRange
 range_in bands rect = record {
-  first = bands.first + (height_of rect.y1 - bands.low) / bands.height;
-  last = bands.first + min ((height_of rect.y2 + bands.reach - bands.low) / bands.height) (bands.count - 1);
+  first = bands.first + (offset_of rect.y1 - bands.low) / bands.height;
+  last = bands.first + min ((offset_of rect.y2 + bands.reach - bands.low) / bands.height) (bands.count - 1);
 }
 
 -- all bands of the first layers, in which no item waits

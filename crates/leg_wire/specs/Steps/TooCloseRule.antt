@@ -1,73 +1,52 @@
--- Shapes that a search with a reach finds too close. Its rule needs the two laws after the definition.
-use Rattle.std.proofs.Common.{◌≡◌, ◌≤◌, ℕ, min, unsigned_abs, List, length, Option, None, Some, slice_get, inl, inr, refl, sym, arith}
+-- Shapes that are too close. The rule of the search needs the laws after the definition.
+use Rattle.std.proofs.Common.{◌≡◌, ◌≤◌, ℕ, min, length, inl, inr, refl, arith}
 use Rattle.std.proofs.lemmas.Bool.{cases_lt}
-use Rattle.std.proofs.lemmas.Option.{slice_get_past}
 use Rattle.leg_geom.specs.Gap.{x_gap, y_gap}
-use Rattle.leg_geom.proofs.Gaps.{SharePoint-symmetric, square_distance-symmetric}
-use Rattle.leg_lib_records.specs.declared.records.Layer.{Layer}
+use Rattle.leg_lib_records.specs.Records.{LibraryModel}
 use Rattle.leg_rules.specs.declared.shape.Shape.{Shape}
-use Rattle.leg_rules.specs.Spacing.Violations.{AreNearer}
-use Rattle.leg_wire_spacing.specs.Closer.{AreCloserThan}
-use Rattle.leg_wire_spacing.proofs.CloserGaps.{AreCloserThan-gaps}
+use Rattle.leg_rules.specs.Spacing.RequiredSpacing.{greatest_spacing_on, required_spacing}
+use Rattle.leg_rules.specs.Spacing.Closer.{AreCloserThan}
+use Rattle.leg_wire_spacing.proofs.RequiredSpacing.{required_within, required_back, none_beyond}
+use Rattle.leg_wire_spacing.proofs.CloserShapes.{closer_back, AreCloserThan-gaps}
 
--- the spacing of the layer of this number, within the reach
-abbrev pub limit_at : List Layer → ℕ → ℕ → ℕ
-limit_at layers reach number = within (slice_get layers number) where
-  within : Option Layer → ℕ
-  within None = 0
-  within (Some layer) = min (unsigned_abs layer.spacing) reach
-
--- two comparable shapes share a point, or lie nearer than their layer's spacing, as far as that is within the reach
-abbrev pub AreClose : List Layer → ℕ → Shape → Shape → Type 0
-AreClose layers reach a b = AreCloserThan (limit_at layers reach a.layer) a b
+-- two comparable shapes share a point, or lie nearer than the spacing that is required of them
+abbrev pub AreClose : LibraryModel → Shape → Shape → Type 0
+AreClose library a b = AreCloserThan (required_spacing library a b) a b
 
 -- shapes are too close in either order
-pub AreClose-symmetric : (layers : List Layer) (reach : ℕ) (a b : Shape) → AreClose layers reach a b → AreClose layers reach b a
-AreClose-symmetric layers reach a b h = record {
-  comparable = record {
-    layer = sym h.comparable.layer;
-    owners = λ same. h.comparable.owners (sym same);
-    apart = λ one. h.comparable.apart (record { component = one.component; of_a = one.of_b; of_b = one.of_a });
-    metal = λ second first. h.comparable.metal first second;
-  };
-  close = elim h.close [
-    | inl s ↦ inl (SharePoint-symmetric a.rect b.rect s)
-    | inr n ↦
-        let near : AreNearer (limit_at layers reach a.layer) b.rect a.rect =
-        record { p = n.q; q = n.p; in_a = n.in_b; in_b = n.in_a; near = rw (square_distance-symmetric n.q n.p) n.near } in
-        inr (rw (← h.comparable.layer) near)
-  ];
-}
+pub AreClose-symmetric : (library : LibraryModel) (a b : Shape) → AreClose library a b → AreClose library b a
+AreClose-symmetric library a b h = rw (← required_back library a b h.comparable.layer) (closer_back (required_spacing library a b) a b h)
 
-limit-within : (reach : ℕ) (layers : List Layer) (number : ℕ) → limit_at layers reach number ≤ reach
-limit-within reach layers number = by (slice_get layers number) refl where
-  by : (layer : Option Layer) → slice_get layers number ≡ layer → limit_at layers reach number ≤ reach
-  by None is = rw is (omega arith)
-  by (Some layer) is = rw is (omega arith)
+-- the gaps of the shapes are within this
+abbrev AreGapsWithin : ℕ → Shape → Shape → Type 0
+AreGapsWithin reach a b = (x_gap a.rect b.rect ≤ reach) × (y_gap a.rect b.rect ≤ reach)
 
--- shapes that are too close have both gaps within the spacing of their layer
-AreClose-near_limit : (layers : List Layer) (reach : ℕ) (a b : Shape) → AreClose layers reach a b
-    → (x_gap a.rect b.rect ≤ limit_at layers reach a.layer) × (y_gap a.rect b.rect ≤ limit_at layers reach a.layer)
-AreClose-near_limit layers reach a b h = AreCloserThan-gaps (limit_at layers reach a.layer) a b h
+-- shapes that are too close have both gaps within the greatest spacing on their layer
+AreClose-near_greatest : (library : LibraryModel) (a b : Shape) → AreClose library a b → AreGapsWithin (greatest_spacing_on library a.layer) a b
+AreClose-near_greatest library a b h =
+    let gaps = AreCloserThan-gaps (required_spacing library a b) a b h in
+    let within = required_within library a b in
+    (omega (arith, gaps.0, within), omega (arith, gaps.1, within))
 
--- which is within the reach
-pub AreClose-near : (layers : List Layer) (reach : ℕ) (a b : Shape) → AreClose layers reach a b → (x_gap a.rect b.rect ≤ reach) × (y_gap a.rect b.rect ≤ reach)
-AreClose-near layers reach a b h =
-    let gaps = AreClose-near_limit layers reach a b h in
-    let within = limit-within reach layers a.layer in
+-- which is within a reach that none is beyond
+pub AreClose-near : (library : LibraryModel) (reach : ℕ) → ((layer : ℕ) → greatest_spacing_on library layer ≤ reach) → (a b : Shape) → AreClose library a b
+    → AreGapsWithin reach a b
+AreClose-near library reach bound a b h =
+    let gaps = AreClose-near_greatest library a b h in
+    let within = bound a.layer in
     (omega (arith, gaps.0, within), omega (arith, gaps.1, within))
 
 -- a number beyond the layers has no spacing
-limit-beyond : (layers : List Layer) (reach number : ℕ) → limit_at layers reach (min number (length layers)) ≡ limit_at layers reach number
-limit-beyond layers reach number =
-    elim (cases_lt number (length layers)) [
-      | inl there ↦ let same : min number (length layers) ≡ number = omega (arith, there) in rw same refl
+greatest-beyond : (library : LibraryModel) (layer : ℕ) → greatest_spacing_on library (min layer (length library.layers)) ≡ greatest_spacing_on library layer
+greatest-beyond library layer =
+    elim (cases_lt layer (length library.layers)) [
+      | inl there ↦ let same : min layer (length library.layers) ≡ layer = omega (arith, there) in rw same refl
       | inr beyond ↦
-          let same : min number (length layers) ≡ length layers = omega (arith, beyond) in
-          rw (same, slice_get_past layers (length layers) (omega arith), slice_get_past layers number beyond) refl
+          let same : min layer (length library.layers) ≡ length library.layers = omega (arith, beyond) in
+          rw (same, none_beyond library (length library.layers) (omega arith), none_beyond library layer beyond) refl
     ]
 
 -- The reach of the search is that of the layer, where the layers above the highest count as one.
-pub AreClose-near_on_layer : (layers : List Layer) (reach : ℕ) (a b : Shape) → AreClose layers reach a b
-    → (x_gap a.rect b.rect ≤ limit_at layers reach (min a.layer (length layers))) × (y_gap a.rect b.rect ≤ limit_at layers reach (min a.layer (length layers)))
-AreClose-near_on_layer layers reach a b h = rw (limit-beyond layers reach a.layer) (AreClose-near_limit layers reach a b h)
+pub AreClose-near_on_layer : (library : LibraryModel) (a b : Shape) → AreClose library a b
+    → AreGapsWithin (greatest_spacing_on library (min a.layer (length library.layers))) a b
+AreClose-near_on_layer library a b h = rw (greatest-beyond library a.layer) (AreClose-near_greatest library a b h)

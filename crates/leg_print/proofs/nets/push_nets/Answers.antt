@@ -3,7 +3,7 @@ use Rattle.std.proofs.lemmas.Result.{on_ok_weaker}
 use Rattle.leg_output.specs.Words.{line}
 use Rattle.leg_output.specs.Text.Nets.{net_text}
 use Rattle.leg_output.specs.Text.Sections.{section_start_words, end_words}
-use Rattle.leg_output.specs.Text.Whole.{net_section}
+use Rattle.leg_design_records.specs.Names.{net_section}
 use Rattle.leg_print.proofs.SectionText.{section_pushed}
 use Rattle.leg_print.proofs.nets.push_nets.Goals as goal
 

@@ -1,5 +1,3 @@
-use Rattle.std.proofs.Common.{◌++◌, sym, ap, ◌∙◌}
-use Rattle.leg_output.specs.Words.{spaced}
 use Rattle.leg_output.specs.Text.Nets.{terminal_words}
 use Rattle.leg_print.proofs.Appends.{next_run}
 use Rattle.leg_print.proofs.nets.push_terminals.Goals as goal
@@ -8,4 +6,4 @@ pub loop-terminal-preserved : goal.loop-terminal-preserved
 loop-terminal-preserved g c =
     next_run (terminal_words c.args.design.now) c.args.terminals.now c.loop-terminal.terminal-index _ _ c.loop-terminal.text.items _
     c.loop-terminal-test.true c.loop-terminal.invariant
-    (c.in_ok-push_words.ensures ∙ ap (λ run. c.loop-terminal.text.items ++ spaced run) (sym c.terminal_names.ensures.words))
+    (rw (c.terminal_names.ensures.first, c.terminal_names.ensures.second) at c.in_ok-push_words.ensures)

@@ -1,4 +1,4 @@
-use Rattle.std.proofs.Common.{sym, ◌∙◌, arith}
+use Rattle.std.proofs.Common.{arith}
 use Rattle.leg_route.specs.Steps.EndSlots.{IsApart, MeetsPiece, IsBoundFrom, AreEndSlots}
 use Rattle.leg_route_access.specs.Steps.AccessToNet.{IsNodeAdmitted}
 use Rattle.leg_route_access.proofs.AccessSteps.{node_admitted}

@@ -1,8 +1,7 @@
-use Rattle.std.proofs.Common.{◌≡◌, List, None, Some, true, pos, ◌+ℤ◌, ◌-ℤ◌, w64, to_z, of_z, refl, sym, ap, ◌∙◌}
+use Rattle.std.proofs.Common.{◌≡◌, None, Some, true, pos, ◌+ℤ◌, ◌-ℤ◌, w64, to_z, of_z, refl, sym, ap, ◌∙◌}
 use Rattle.std.proofs.lemmas.Bool.Decides.{Decides-eqb}
 use Rattle.std.proofs.lemmas.Int.{to_z-of_z}
 use Rattle.std.proofs.lemmas.Option.{same_Some}
-use Rattle.leg_lib_records.specs.declared.records.Layer.{Layer}
 use Rattle.leg_lib_records.specs.Records.{LibraryModel}
 use Rattle.leg_design_records.specs.Records.{DesignModel}
 use Rattle.leg_route_grid.specs.declared.layers.RoutingLayer.{RoutingLayer}
@@ -36,7 +35,7 @@ returns g c =
     let rect = shape.rect in
     let is_rect = c.x1.ensures.proper in
     let reach = c.in-Some.reach in
-    let clear = clear_at grid.design.library.layers shape.layer in
+    let clear = clear_at grid.design.library shape.layer in
     let own = c.layer_at-own.result in
     let along_x = c.steps_along-along_x.result in
     let along_y = c.steps_along-along_y.result in
@@ -56,11 +55,10 @@ returns g c =
                 ∙ direction,
           );
     } in
-    let layers : c.layers.result.now ≡ grid.design.library.layers =
-    c.layers.ensures.is ∙ ap (λ (l : LibraryModel). l.layers) c.library.ensures.is ∙ ap (λ (d : DesignModel). d.library.layers) (sym c.requires.of_design) in
+    let library : c.library.result.now ≡ grid.design.library = c.library.ensures.is ∙ ap (λ (d : DesignModel). d.library) (sym c.requires.of_design) in
     let reach_is : to_z w64 (of_z w64 reach) ≡ reach = to_z-of_z w64 reach (distance_fits reach c.in-Some.ensures.proper) in
     let far_is : c.far_on-far.result ≡ (reach +ℤ pos clear) =
-    rw reach_is at c.far_on-far.ensures.is ∙ ap (λ (ls : List Layer). reach +ℤ pos (clear_at ls shape.layer)) layers in
+    rw reach_is at c.far_on-far.ensures.is ∙ ap (λ (l : LibraryModel). reach +ℤ pos (clear_at l shape.layer)) library in
     let far_fits = far_fits c.far_on-far.result c.far_on-far.ensures.proper in
     let columns : ArePlacesNear grid.xs along_x (rect.x1 -ℤ (reach +ℤ pos clear))
     (rect.x2 +ℤ (reach +ℤ pos clear)) c.places_near-columns.result.0 c.places_near-columns.result.1 =

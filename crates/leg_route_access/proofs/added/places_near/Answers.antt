@@ -1,6 +1,6 @@
 use Rattle.std.proofs.Common.{◌+ℤ◌, ◌-ℤ◌, inl, true, false, w64, arith}
 use Rattle.std.proofs.lemmas.Int.{to_z-of_z}
-use Rattle.leg_route_grid.specs.Steps.Places.{ArePlaces}
+use Rattle.leg_geom.specs.Line.{ArePlaces}
 use Rattle.leg_route_access.proofs.MetalReach.{places_before, place_before, far_fits, low_fits, high_fits, coordinate_fits}
 use Rattle.leg_route_access.proofs.added.places_near.Goals as goal
 
@@ -18,7 +18,7 @@ returns-then-back c =
       to_z-of_z w64 high (coordinate_fits high c.requires.high),
       to_z-of_z w64 (low -ℤ far) (low_fits low far c.requires.low is_far),
       to_z-of_z w64 (high +ℤ far) (high_fits high far c.requires.high is_far),
-    ) at c.places_within-first.ensures in
+    ) at (c.places_within-first.ensures.places c.requires.rising) in
     rw c.if-back.true
     (places_before values true (low -ℤ far) (high +ℤ far) c.places_within-first.result.0 c.places_within-first.result.1 c.saturating_sub.result places
     (place_before c.places_within-first.result.0 c.saturating_sub.result c.saturating_sub.ensures))
@@ -37,7 +37,7 @@ returns-else-back c =
       to_z-of_z w64 high (coordinate_fits high c.requires.high),
       to_z-of_z w64 (low -ℤ far) (low_fits low far c.requires.low is_far),
       to_z-of_z w64 (high +ℤ far) (high_fits high far c.requires.high is_far),
-    ) at c.places_within-first.ensures in
+    ) at (c.places_within-first.ensures.places c.requires.rising) in
     rw c.if-back.false
     (places_before values false (low -ℤ far) (high +ℤ far) c.places_within-first.result.0 c.places_within-first.result.1 c.places_within-first.result.0 places
     (inl (omega arith)))

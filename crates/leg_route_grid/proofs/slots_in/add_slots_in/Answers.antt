@@ -1,10 +1,10 @@
-use Rattle.std.proofs.Common.{FitsSigned, w64, arith}
+use Rattle.std.proofs.Common.{◌<ℤ◌, AllPairs, FitsSigned, w64, arith}
 use Rattle.std.proofs.lemmas.Int.{to_z-of_z, fits_signed_from_abs}
 use Rattle.std.proofs.lemmas.Option.{slice_get_within}
 use Rattle.leg_route_grid.specs.Steps.NodesInRect.{LiesInRect}
 use Rattle.leg_route_grid.specs.Steps.Grid.{IsNumberOf}
 use Rattle.leg_route_grid.specs.Steps.NodeNumbers.{IsOneOf}
-use Rattle.leg_route_grid.specs.Steps.Places.{ArePlaces}
+use Rattle.leg_geom.specs.Line.{ArePlaces}
 use Rattle.leg_route_grid.specs.Steps.SlotRanges.{IsRoutingLayerAt, HaveGot}
 use Rattle.leg_route_grid.proofs.SlotRanges.{none_on_layer, all_in_rect, all_below}
 use Rattle.leg_route_grid.proofs.SlotBoxes.{new_boxes, still_boxed}
@@ -15,12 +15,6 @@ pub returns-in_default-clause-added : goal.returns-in_default-clause-added
 returns-in_default-clause-added g c =
     none_on_layer c.args.grid.now c.layers.ensures.proper c.args.layer c.args.rect.now c.args.found.now.slots.items
     (rw c.layers.ensures.is at c.in_default.ensures)
-
-pub places_within-columns-requires : goal.places_within-columns-requires
-places_within-columns-requires g c = rw c.xs.ensures.is c.xs.ensures.proper.xs_are.increasing
-
-pub places_within-rows-requires : goal.places_within-rows-requires
-places_within-rows-requires g c = rw c.ys.ensures.is c.ys.ensures.proper.ys_are.increasing
 
 pub add_rows_once-requires-clause-layer : goal.add_rows_once-requires-clause-layer
 add_rows_once-requires-clause-layer g c =
@@ -40,7 +34,9 @@ columns g c =
     let x2_in = is_rect.x2 in
     let x1_fits : FitsSigned w64 rect.x1 = fits_signed_from_abs w64 rect.x1 (omega (arith, x1_in)) in
     let x2_fits : FitsSigned w64 rect.x2 = fits_signed_from_abs w64 rect.x2 (omega (arith, x2_in)) in
-    rw (c.xs.ensures.is, c.x1.ensures.is, c.x2.ensures.is, to_z-of_z w64 rect.x1 x1_fits, to_z-of_z w64 rect.x2 x2_fits) at c.places_within-columns.ensures
+    let rising : AllPairs (λ a b. a <ℤ b) c.xs.result.now = rw c.xs.ensures.is c.xs.ensures.proper.xs_are.increasing in
+    let places = c.places_within-columns.ensures.places rising in
+    rw (c.xs.ensures.is, c.x1.ensures.is, c.x2.ensures.is, to_z-of_z w64 rect.x1 x1_fits, to_z-of_z w64 rect.x2 x2_fits) at places
 
 rows : (g : Over) (c : goal.In_ok-add_rows_once g)
     → ArePlaces c.args.grid.now.ys c.args.rect.now.y1 c.args.rect.now.y2 c.places_within-rows.result.0 c.places_within-rows.result.1
@@ -51,7 +47,9 @@ rows g c =
     let y2_in = is_rect.y2 in
     let y1_fits : FitsSigned w64 rect.y1 = fits_signed_from_abs w64 rect.y1 (omega (arith, y1_in)) in
     let y2_fits : FitsSigned w64 rect.y2 = fits_signed_from_abs w64 rect.y2 (omega (arith, y2_in)) in
-    rw (c.ys.ensures.is, c.y1.ensures.is, c.y2.ensures.is, to_z-of_z w64 rect.y1 y1_fits, to_z-of_z w64 rect.y2 y2_fits) at c.places_within-rows.ensures
+    let rising : AllPairs (λ a b. a <ℤ b) c.ys.result.now = rw c.ys.ensures.is c.ys.ensures.proper.ys_are.increasing in
+    let places = c.places_within-rows.ensures.places rising in
+    rw (c.ys.ensures.is, c.y1.ensures.is, c.y2.ensures.is, to_z-of_z w64 rect.y1 y1_fits, to_z-of_z w64 rect.y2 y2_fits) at places
 
 -- the numbers have got those of the slots in the rectangle
 got : (g : Over) (c : goal.In_ok-add_rows_once g) → HaveGot

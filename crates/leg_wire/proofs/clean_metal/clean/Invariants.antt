@@ -1,7 +1,7 @@
 -- None of the shapes so far is close.
 use Rattle.std.proofs.Common.{All, take}
 use Rattle.leg_rules.specs.declared.shape.Shape.{Shape}
-use Rattle.leg_wire_spacing.specs.Closer.{AreCloserThan}
+use Rattle.leg_rules.specs.Spacing.Closer.{AreCloserThan}
 use Rattle.leg_wire.proofs.clean_metal.clean.Given as goal
 
 abbrev pub invariant-loop-shape : goal.invariant-loop-shape

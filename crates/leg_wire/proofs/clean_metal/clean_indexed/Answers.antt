@@ -6,16 +6,15 @@ use Rattle.std.proofs.lemmas.List.Elements.{All-push}
 use Rattle.std.proofs.lemmas.Option.{slice_get_read}
 use Rattle.leg_sweep.specs.Near.{AreNear}
 use Rattle.leg_rules.specs.Spacing.Clean.{net_metal}
-use Rattle.leg_wire_spacing.specs.LayerSpacing.{spacing_at}
-use Rattle.leg_wire_spacing.specs.Closer.{AreCloserThan}
-use Rattle.leg_wire_spacing.proofs.CleanMetal.{none_close, is_clean}
+use Rattle.leg_rules.specs.Spacing.RequiredSpacing.{greatest_spacing_on}
+use Rattle.leg_rules.specs.Spacing.Closer.{AreCloserThan}
 use Rattle.leg_wire.proofs.NearShapes.{rects_of, IsFarAt, next_within, far_at, far_from_all}
 use Rattle.leg_wire.proofs.clean_metal.clean_indexed.Goals as goal
 
 pub bounds-shapes-number : goal.bounds-shapes-number
 bounds-shapes-number g c =
     rw c.shapes-shapes.ensures.is
-    (next_within c.args.flat.now.shapes c.args.index.now c.args.rect c.spacing_at-spacing.result c.near-number-items.result c.loop-number.yielded
+    (next_within c.args.flat.now.shapes c.args.index.now c.args.rect c.greatest_spacing_on-spacing.result c.near-number-items.result c.loop-number.yielded
     c.loop-number.number-iterator c.next.new.self c.in-Some.number
     c.requires c.near-number-items.ensures (sym c.into_iter-number-iterator.ensures.into_iter_gives ∙ c.loop-number.invariant.so_far) c.in-Some.ensures.steps)
 
@@ -25,21 +24,21 @@ returns-then-are_closer_than g c =
     let flat = c.args.flat.now in
     let shape = c.index-shapes-number.result in
     let number : ℕ = c.in-Some.number in
-    let close = rw (c.spacing_at-spacing.ensures.is, c.layers.ensures.is, c.net_metal-metal.ensures) at (c.if-are_closer_than.ensures.0 refl) in
+    let close = rw (c.greatest_spacing_on-spacing.ensures.is, c.net_metal-metal.ensures) at (c.if-are_closer_than.ensures.0 refl) in
     let within : number < length flat.shapes =
-    next_within flat.shapes c.args.index.now c.args.rect c.spacing_at-spacing.result c.near-number-items.result c.loop-number.yielded
+    next_within flat.shapes c.args.index.now c.args.rect c.greatest_spacing_on-spacing.result c.near-number-items.result c.loop-number.yielded
     c.loop-number.number-iterator c.next.new.self number
     c.requires c.near-number-items.ensures (sym c.into_iter-number-iterator.ensures.into_iter_gives ∙ c.loop-number.invariant.so_far) c.in-Some.ensures.steps in
     let is = rw c.shapes-shapes.ensures.is at c.index-shapes-number.is in
     let has : Contains flat.shapes shape = (number, within, sym is) in
-    (λ t. absurd (false≢true t), λ clean. absurd (none_close library flat c.args.net c.args.layer c.args.rect clean shape has close))
+    (λ t. absurd (false≢true t), λ clean. absurd (clean.far shape has close))
 
 pub loop-number-preserved : goal.loop-number-preserved
 loop-number-preserved g c =
     let shapes = c.shapes-shapes.result.now in
     let shape = c.index-shapes-number.result in
     let number : ℕ = c.in-Some.number in
-    let reach = c.spacing_at-spacing.result in
+    let reach = c.greatest_spacing_on-spacing.result in
     let metal = c.net_metal-metal.result in
     let within : number < length shapes = rw c.shapes-shapes.ensures.is
     (next_within c.args.flat.now.shapes c.args.index.now c.args.rect reach c.near-number-items.result c.loop-number.yielded c.loop-number.number-iterator
@@ -62,13 +61,13 @@ returns g c =
     let library = c.args.library.now in
     let flat = c.args.flat.now in
     let metal = net_metal c.args.net c.args.layer c.args.rect in
-    let spacing = spacing_at library.layers c.args.layer in
+    let spacing = greatest_spacing_on library c.args.layer in
     let all = c.near-number-items.result in
     let done : all ≡ c.loop-number.yielded =
     sym c.into_iter-number-iterator.ensures.into_iter_gives ∙ c.loop-number.invariant.so_far ∙ ap (λ xs. c.loop-number.yielded ++ xs) c.in-None.ensures.steps.0
     ∙ append-nil c.loop-number.yielded in
     let near : AreNear (rects_of flat.shapes) c.args.rect spacing all =
-    rw (c.requires, c.spacing_at-spacing.ensures.is, c.layers.ensures.is) at c.near-number-items.ensures in
+    rw (c.requires, c.greatest_spacing_on-spacing.ensures.is) at c.near-number-items.ensures in
     let far : All (IsFarAt flat.shapes spacing metal) all =
-    rw done (rw (c.shapes-shapes.ensures.is, c.spacing_at-spacing.ensures.is, c.layers.ensures.is, c.net_metal-metal.ensures) at c.loop-number.invariant.far) in
-    (λ t. is_clean library flat c.args.net c.args.layer c.args.rect (far_from_all flat.shapes spacing metal all near far), λ clean. refl)
+    rw done (rw (c.shapes-shapes.ensures.is, c.greatest_spacing_on-spacing.ensures.is, c.net_metal-metal.ensures) at c.loop-number.invariant.far) in
+    (λ t. record { far = far_from_all flat.shapes spacing metal all near far }, λ clean. refl)

@@ -24,8 +24,7 @@ push_among-requires-clause-second g c =
 
 pub returns : goal.returns
 returns g c =
-    let layers = c.args.rule.now.layers.now in
-    let reach = c.args.rule.now.reach in
+    let library = c.args.rule.now.library.now in
     let shapes = c.args.shapes.now in
     let kinds = c.in_ok-kinds.kinds.items in
     let numbers = c.in_ok-kinds.numbers.items in
@@ -34,9 +33,9 @@ returns g c =
     let are_kinds : AreKinds AreAlike shapes kinds numbers = c.in_ok-kinds.ensures in
     let size : c.len.result ≡ length kinds = grind (arith, common_steps) in
     let are_members : AreMembers numbers (length kinds) members = rw (c.deref-2.ensures.value, size) at c.in_ok-members.ensures in
-    let are : ArePairs (AreClose layers reach) kinds close = rw c.deref.ensures.value at c.in_ok-close.ensures.pairs in
+    let are : ArePairs (AreClose library) kinds close = rw c.deref.ensures.value at c.in_ok-close.ensures.pairs in
     let found : c.push_among.new.found.items ≡ pairs_among members close =
     rw (c.deref-3.ensures.value, c.deref-4.ensures.value, c.new-found.ensures.items) at c.in_ok-push_among.ensures in
-    pairs_of_kinds layers reach shapes kinds numbers members close are_kinds are_members are c.put_in_order.new.pairs.items c.put_in_order.ensures.rising
+    pairs_of_kinds library shapes kinds numbers members close are_kinds are_members are c.put_in_order.new.pairs.items c.put_in_order.ensures.rising
     (λ p has. rw found at ((c.put_in_order.ensures.same p).0 has))
     (λ p has. (c.put_in_order.ensures.same p).1 (rw found has))

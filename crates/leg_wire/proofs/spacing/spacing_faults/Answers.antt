@@ -1,5 +1,5 @@
 -- The pairs that the search finds are the shorts and the shapes too near one another.
-use Rattle.std.proofs.Common.{◌≡◌, ◌++◌, All, unsigned_abs, ◌≤◌}
+use Rattle.std.proofs.Common.{◌≡◌, ◌++◌}
 use Rattle.leg_sweep.specs.Pairs.{ArePairs}
 use Rattle.leg_design_records.specs.declared.fault.Fault.TheVariants.{Short, TooNear}
 use Rattle.leg_design_records.specs.Violation.{IsListOf}
@@ -27,14 +27,11 @@ pub returns : goal.returns
 returns g c =
     let library = c.args.library.now in
     let flat = c.args.flat.now in
-    let reach = c.new-rule.result.reach in
     let close = c.in_ok-close.close.items in
-    let within : All (λ layer. unsigned_abs layer.spacing ≤ reach) library.layers = rw (← c.layers.ensures.is) c.new-rule.ensures.reach in
-    let are : ArePairs (AreClose library.layers reach) flat.shapes close =
-    rw (c.new-rule.ensures.layers, c.layers.ensures.is, c.shapes-shapes.ensures.is) at c.in_ok-close.ensures in
+    let are : ArePairs (AreClose library) flat.shapes close = rw (c.new-rule.ensures.library, c.shapes-shapes.ensures.is) at c.in_ok-close.ensures in
     let s = c.in_ok-push_pairs.ensures in
     let n = c.in_ok-push_pairs-2.ensures in
     let shorts : IsListOf (IsPairViolation Short DoShare flat.shapes close) s.more = rw (c.deref.ensures.value, c.shapes-shapes.ensures.is) at s.list in
     let near : IsListOf (IsPairViolation TooNear ShareNoPoint flat.shapes close) n.more = rw (c.deref-2.ensures.value, c.shapes-shapes.ensures.is) at n.list in
     let found : c.push_pairs-2.new.found.items ≡ s.more ++ n.more = rw (n.is, s.is, c.new-found.ensures.items) in
-    rw found (listing_told library reach within flat close are s.more n.more shorts near)
+    rw found (listing_told library flat close are s.more n.more shorts near)

@@ -1,7 +1,0 @@
-use Rattle.std.proofs.Common.{◌≡◌, ◌++◌, take}
-use Rattle.std.specs.List.{flat_map}
-use Rattle.leg_app_message.proofs.parts.push_parts.Given as goal
-
--- the parts so far
-abbrev pub invariant-loop-part : goal.invariant-loop-part
-invariant-loop-part g l = l.message.items ≡ l.fn.message.items ++ flat_map (λ part. part.now) (take l.part-index l.parts)

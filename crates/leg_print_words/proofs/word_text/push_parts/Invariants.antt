@@ -1,0 +1,7 @@
+use Rattle.std.proofs.Common.{◌≡◌, ◌++◌, take}
+use Rattle.std.specs.List.{flat_map}
+use Rattle.leg_print_words.proofs.word_text.push_parts.Given as goal
+
+-- the parts so far
+abbrev pub invariant-loop-part : goal.invariant-loop-part
+invariant-loop-part g l = l.text.items ≡ l.fn.text.items ++ flat_map (λ part. part.now) (take l.part-index l.parts)
