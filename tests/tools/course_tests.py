@@ -153,7 +153,7 @@ class BlocksTests(Room):
         folder = os.path.join(TOP, 'crates', 'leg_rules', 'specs', 'Spacing')
         lines = [line for name in ('Violations', 'Comparable') for line in read(os.path.join(folder, f'{name}.antt')).splitlines()]
         self.assertEqual([line for line in given if line not in lines], [])
-        self.assertEqual(len(given), 17)
+        self.assertEqual(len(given), 15)
 
 
 class BestTests(Room):
