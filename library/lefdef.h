@@ -24,17 +24,26 @@ enum lefdef_command {
     LEFDEF_LEGALISE = 3,
     LEFDEF_ROUTE = 4,
     LEFDEF_FLOW = 5,
-    LEFDEF_FINISH = 6
+    LEFDEF_FINISH = 6,
+    LEFDEF_PRINT = 7
 };
+
+/* The options of the program, as flags that are added to the number of a command. They say in which profile the texts are read: in the
+ * narrow one without a flag, and in the wide one with LEFDEF_WIDE. Each other flag goes only with LEFDEF_WIDE, and of the last two only
+ * one. So far both profiles read the same texts, and no flag changes an answer. */
+#define LEFDEF_WIDE 256u       /* --wide */
+#define LEFDEF_MASKS_DROP 512u /* --masks drop: shapes are read as if they had no masks */
+#define LEFDEF_SOFT_DROP 1024u /* --soft drop: a placement blockage that is SOFT or PARTIAL is read as if it were not there */
+#define LEFDEF_SOFT_HARD 2048u /* --soft hard: such a blockage is read as any other */
 
 /* How a call ended: the program's exit statuses. */
 enum lefdef_status {
-    LEFDEF_SUCCESS = 0,    /* the design is legal, its wirelength was printed, or it was legalised, routed or finished */
+    LEFDEF_SUCCESS = 0,    /* the design is legal, its wirelength was printed, or a design was printed */
     LEFDEF_VIOLATIONS = 1, /* violations were listed */
     LEFDEF_REFUSED = 2,    /* a text was refused, a length is no whole number of the DEF's units, or there are too many shapes */
     LEFDEF_UNSOLVED = 3,   /* the design could not be legalised, routed or finished */
     LEFDEF_MEMORY = 4,     /* the memory was not enough: the answer is the line MEMORY, and more memory may give another */
-    LEFDEF_USAGE = 64      /* no command has this number: there is no answer */
+    LEFDEF_USAGE = 64      /* no command has this number, or its flags do not go together: there is no answer */
 };
 
 /* Memory is lent in units of this many bytes. */
@@ -52,7 +61,8 @@ struct lefdef_memory {
     size_t size;    /* a multiple of LEFDEF_UNIT, and at least one */
 };
 
-/* Answers a command to the texts of the LEFs, in order, and of the DEF, and returns how it ended (enum lefdef_status).
+/* Answers a command to the texts of the LEFs, in order, and of the DEF, and returns how it ended (enum lefdef_status). `command` is the
+ * number of the command, and may have flags added to it, as LEFDEF_CHECK + LEFDEF_WIDE.
  *
  * `*length` becomes the length of the answer in bytes. As much of its front as fits is in `out`, from the first byte on; what `out` has
  * beyond the answer stays as it was. An answer that is longer than `out` is cut, and only `*length` tells it: then `out` has to be

@@ -52,7 +52,7 @@ class AnswerView {
   }
 
   isDesign() {
-    return Boolean(this.answer) && this.answer.status === 0 && ['legalise', 'route', 'flow', 'finish'].includes(this.command);
+    return Boolean(this.answer) && this.answer.status === 0 && ['legalise', 'route', 'flow', 'finish', 'print'].includes(this.command);
   }
 
   switch() {

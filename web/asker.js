@@ -25,11 +25,12 @@ class Asker {
     if (said.failure) this.failure = said.failure;
   }
 
-  // Asks a command on texts, each { name, file }. `listener` is given { answer } and then { picture }, or { failure }.
-  ask(command, lefs, def, listener) {
+  // Asks a command on texts, each { name, file }, that are read in a profile, { isWide, masks, soft }. `listener` is given { answer } and then
+  // { picture }, or { failure }.
+  ask(command, profile, lefs, def, listener) {
     this.id++;
     this.open.set(this.id, listener);
-    this.worker.postMessage({ id: this.id, command, lefs, def });
+    this.worker.postMessage({ id: this.id, command, profile, lefs, def });
   }
 
   // Stops what is being answered.

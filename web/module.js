@@ -3,7 +3,11 @@
 // The module is for 64-bit memory: addresses and sizes are BigInts. A slice is passed as its address and its length, a slice of slices as the
 // address of such pairs and their number, and the memory that a call may use as the address of a pair of its own.
 
-const COMMAND_NAMES = ['check', 'place-check', 'measure', 'legalise', 'route', 'flow', 'finish'];
+const COMMAND_NAMES = ['check', 'place-check', 'measure', 'legalise', 'route', 'flow', 'finish', 'print'];
+// What is added to a command's number for the wide profile, and for what is then to be done with masks and with soft and partial blockages.
+const WIDE = 256;
+const MASKS_FLAGS = { refused: 0, drop: 512 };
+const SOFT_FLAGS = { refused: 0, drop: 1024, hard: 2048 };
 const [REFUSED, NO_MEMORY] = [2, 4];
 const PAGE = 65536;
 const UNIT = 16;
@@ -16,6 +20,11 @@ const FIRST_OUT = 2 ** 20;
 const FIRST_MESSAGE = 2 ** 12;
 // The program reads no more of a file.
 const FILE_LIMIT = 2 ** 28 + 1;
+
+// Returns the number by which a command is asked in a profile, { isWide, masks, soft }.
+function numberOf(command, { isWide, masks, soft }) {
+  return COMMAND_NAMES.indexOf(command) + (isWide ? WIDE + MASKS_FLAGS[masks] + SOFT_FLAGS[soft] : 0);
+}
 
 // Returns the bytes of a text in base 64 that was compressed by gzip.
 async function unpacked(text) {
@@ -86,13 +95,13 @@ class Module {
     this.module = module;
   }
 
-  // Returns the status and the text with which lefdef answers a command to texts of files with these names, the DEF's first, and the message
-  // that the program writes on standard error. It is called with more memory and more room until both are enough. Where the browser does not
+  // Returns the status and the text with which lefdef answers a command, by its number, to texts of files with these names, the DEF's first,
+  // and the message that the program writes on standard error. It is called with more memory and more room until both are enough. Where the browser does not
   // grant so much memory, half of it may do.
-  run(command, names, lefs, def) {
+  run(number, names, lefs, def) {
     const [defName, ...lefNames] = names.map((name) => new TextEncoder().encode(name));
     const words = (layout) => [
-      COMMAND_NAMES.indexOf(command), ...layout.slices(lefNames), ...layout.bytes(defName), ...layout.slices(lefs), ...layout.bytes(def)];
+      number, ...layout.slices(lefNames), ...layout.bytes(defName), ...layout.slices(lefs), ...layout.bytes(def)];
     const size = [...lefs, def].reduce((sum, text) => sum + text.length, 0);
     let [lent, most, room, messageRoom] = [LEAST_LENT + LENT_A_BYTE * size, MOST_LENT, FIRST_OUT + size, FIRST_MESSAGE];
     while (lent <= most && lent >= LEAST_LENT) {
@@ -125,9 +134,9 @@ class Module {
       if (error instanceof RangeError) return null;
       throw error;
     }
-    const [command, ...rest] = words;
+    const [number, ...rest] = words;
     const addresses = [...rest, out, room, length, message, messageRoom, messageLength].map(BigInt);
-    const status = exports.lefdef_run_explained(BigInt(memory), command, ...addresses);
+    const status = exports.lefdef_run_explained(BigInt(memory), number, ...addresses);
     const count = (at) => Number(new BigUint64Array(exports.memory.buffer, at, 1)[0]);
     return {
       status,

@@ -1,4 +1,4 @@
-// The page: texts are opened or dropped, a command is asked, and the answer and the picture are shown.
+// The page: texts are opened or dropped, a command is asked in a profile, and the answer and the picture are shown.
 
 class Page {
   constructor(page) {
@@ -6,6 +6,7 @@ class Page {
     this.get = (name) => page.getElementById(name);
     this.texts = new Texts();
     this.asker = new Asker(page);
+    this.profile = new ProfileChoice(page);
     this.list = new TextList(this.texts, page, () => this.changed());
     this.answer = new AnswerView(page, (answer, name) => this.takeDesign(answer, name));
     this.isRunning = this.isExample = false;
@@ -45,6 +46,7 @@ class Page {
     this.texts.replace([{ ...def, kind: 'DEF', isTechnology: false }, ...lefs.map((lef) => ({ ...lef, kind: 'LEF', isTechnology: true }))]);
     this.isExample = true;
     this.get('command').value = command;
+    this.profile.chooseNarrow();
     this.list.update();
     this.run();
   }
@@ -87,7 +89,7 @@ class Page {
     this.setRunning(true);
     this.answer.clear('running ..');
     const plain = ({ name, file }) => ({ name, file });
-    this.asker.ask(command, lefs.map(plain), plain(def), (said) => this.take(said, command, def.name));
+    this.asker.ask(command, this.profile.chosen(), lefs.map(plain), plain(def), (said) => this.take(said, command, def.name));
   }
 
   stop() {

@@ -1,8 +1,8 @@
 // What runs beside the page: it asks the module, and makes the data of the picture. A message to it is { module }, the module's text, or
-// { id, command, lefs, def }, each text { name, file }; it answers { id, answer } and then { id, picture }.
+// { id, command, profile, lefs, def }, each text { name, file }; it answers { id, answer } and then { id, picture }.
 
-// Answers that are designs, and what their picture is compared with.
-const DESIGN_COMMANDS = new Set(['legalise', 'route', 'flow', 'finish']);
+// Commands that change a design: their picture is compared with what was given.
+const CHANGING_COMMANDS = new Set(['legalise', 'route', 'flow', 'finish']);
 // Longer texts are not drawn.
 const MOST_DRAWN = 2 ** 27;
 const UNREADABLE = 5;
@@ -20,20 +20,21 @@ async function bytesOf({ name, file }) {
 
 class Unreadable extends Error {}
 
-// Returns the answer to a command on texts: its status, its bytes and the message on it.
-function asked(module, command, names, lefs, def) {
-  const { status, text, message } = module.run(command, names, lefs, def);
+// Returns the answer to a command on texts, by its number: its status, its bytes and the message on it.
+function asked(module, number, names, lefs, def) {
+  const { status, text, message } = module.run(number, names, lefs, def);
   return { status, text, message: textOf(message) };
 }
 
 // Returns what is to be drawn after an answer, or null: the design that was printed and the one before, or the one that was read, with its
 // violations where they were listed.
-function drawnOf(module, command, names, lefs, def, { status, text }) {
+function drawnOf(module, { command, profile }, names, lefs, def, { status, text }) {
   if (status === REFUSED || status === NO_MEMORY || def.length > MOST_DRAWN) return null;
-  if (status === 0 && DESIGN_COMMANDS.has(command)) return { def: text, before: def, lines: null };
+  if (status === 0 && CHANGING_COMMANDS.has(command)) return { def: text, before: def, lines: null };
+  if (status === 0 && command === 'print') return { def: text, before: null, lines: null };
   const lines = violationLines(textOf(text));
   // (what `flow` lists is of the legalised block, where it could be legalised)
-  const legalised = lines && command === 'flow' ? module.run('legalise', names, lefs, def) : null;
+  const legalised = lines && command === 'flow' ? module.run(numberOf('legalise', profile), names, lefs, def) : null;
   return legalised && legalised.status === 0 ? { def: legalised.text, before: def, lines } : { def, before: null, lines };
 }
 
@@ -51,15 +52,15 @@ function buffersOf({ shapes, components }) {
   return [...Object.values(shapes), ...Object.values(components)].map((array) => array.buffer);
 }
 
-async function answer({ id, command, lefs, def }) {
+async function answer({ id, command, profile, lefs, def }) {
   const texts = await Promise.all([...lefs, def].map(bytesOf));
   const names = [def, ...lefs].map(({ name }) => name);
   const read = texts.pop();
   const module = await loading;
   const began = performance.now();
-  const answered = asked(module, command, names, texts, read);
+  const answered = asked(module, numberOf(command, profile), names, texts, read);
   postMessage({ id, answer: { ...answered, seconds: (performance.now() - began) / 1000 } });
-  const drawn = drawnOf(module, command, names, texts, read, answered);
+  const drawn = drawnOf(module, { command, profile }, names, texts, read, answered);
   const picture = drawn ? pictureOf(texts, drawn) : null;
   postMessage({ id, picture }, picture ? buffersOf(picture) : []);
 }

@@ -3,8 +3,8 @@
  *     cc -O2 -I library library/examples/check.c liblefdef.a -o check
  *     ./check check examples/unfinished.def examples/standard.lef
  *
- * It answers as the program `lefdef` does, with its messages. The exit statuses are those of lefdef, among them 4 where memory runs
- * out, and 5 where a file cannot be read or the answer cannot be written.
+ * It answers as the program `lefdef` does, with its messages; of the options it takes --wide. The exit statuses are those of lefdef,
+ * among them 4 where memory runs out, and 5 where a file cannot be read or the answer cannot be written.
  */
 #include "lefdef.h"
 
@@ -18,7 +18,7 @@
 static const char *const commands[] = {
     [LEFDEF_CHECK] = "check",       [LEFDEF_PLACE_CHECK] = "place-check", [LEFDEF_MEASURE] = "measure",
     [LEFDEF_LEGALISE] = "legalise", [LEFDEF_ROUTE] = "route",             [LEFDEF_FLOW] = "flow",
-    [LEFDEF_FINISH] = "finish",
+    [LEFDEF_FINISH] = "finish",     [LEFDEF_PRINT] = "print",
 };
 
 enum { COMMANDS = sizeof commands / sizeof commands[0] };
@@ -74,7 +74,7 @@ static struct lefdef_text file(const char *path)
     return lefdef_text_of(bytes, length);
 }
 
-/* A command, its texts and the names of their files. */
+/* A command, with its flags, its texts and the names of their files. */
 struct question {
     uint32_t command;
     const struct lefdef_text *lef_names;
@@ -132,8 +132,11 @@ static void write_out(struct bytes bytes, FILE *to)
 
 int main(int words, char **word)
 {
+    uint32_t flags = words > 1 && strcmp(word[1], "--wide") == 0 ? LEFDEF_WIDE : 0;
+    words -= flags != 0;
+    word += flags != 0;
     if (words < 4 || number_of(word[1]) == COMMANDS) {
-        stop(LEFDEF_USAGE, "usage: check COMMAND DEF LEF...", "");
+        stop(LEFDEF_USAGE, "usage: check [--wide] COMMAND DEF LEF...", "");
     }
     size_t count = (size_t)words - 3;
     struct lefdef_text *names = memory_of(count * sizeof *names);
@@ -143,7 +146,7 @@ int main(int words, char **word)
         lefs[at] = file(word[at + 3]);
     }
     struct lefdef_text def_name = lefdef_text_of(word[2], strlen(word[2]));
-    struct question question = {number_of(word[1]), names, def_name, lefs, count, file(word[2])};
+    struct question question = {number_of(word[1]) + flags, names, def_name, lefs, count, file(word[2])};
 
     size_t length = question.def.length;
     for (size_t at = 0; at < count; at++) {

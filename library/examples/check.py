@@ -2,17 +2,19 @@
 """Checks a block, or asks another command of lefdef, by the library liblefdef.so, which has to be in the folder that LEFDEF_LIBRARY
 names or else in the current one.
 
-    check.py COMMAND DEF LEF...
+    check.py [--wide] COMMAND DEF LEF...
 
-It answers as the program `lefdef` does, but for its messages. The exit statuses are those of lefdef, among them 4 where memory runs
-out, and 5 where a file cannot be read or the answer cannot be written.
+It answers as the program `lefdef` does, but for its messages; of the options it takes --wide. The exit statuses are those of lefdef, among
+them 4 where memory runs out, and 5 where a file cannot be read or the answer cannot be written.
 """
 import ctypes
 import mmap
 import os
 import sys
 
-COMMANDS = ("check", "place-check", "measure", "legalise", "route", "flow", "finish")
+COMMANDS = ("check", "place-check", "measure", "legalise", "route", "flow", "finish", "print")
+# The flag of the wide profile.
+WIDE = 256
 MEMORY = 4
 UNIT = 16
 # No more than this is lent.
@@ -38,7 +40,7 @@ def load(folder):
     return run
 
 
-def ask(run, size, command, lefs, definition):
+def ask(run, size, number, lefs, definition):
     """Returns the status and the answer of one call with this many bytes of memory, of two if the answer is longer than was guessed.
 
     Memory that mmap gives is at a page, and takes room only as far as it is used."""
@@ -50,14 +52,13 @@ def ask(run, size, command, lefs, definition):
     while length.value > room:
         room = length.value
         out = ctypes.create_string_buffer(room)
-        status = run(memory, command, texts, len(lefs), definition, len(definition), out, room, ctypes.byref(length))
+        status = run(memory, number, texts, len(lefs), definition, len(definition), out, room, ctypes.byref(length))
     return status, ctypes.string_at(out, length.value)
 
 
-def answer(run, command, lefs, definition):
-    """Returns the status and the answer of a command, by its name, to the bytes of the LEFs and of the DEF."""
+def answer(run, number, lefs, definition):
+    """Returns the status and the answer of a command, by its number with its flags, to the bytes of the LEFs and of the DEF."""
     size = 20 * sum(map(len, [definition, *lefs])) + (1 << 20)
-    number = COMMANDS.index(command)
     status, text = ask(run, size, number, lefs, definition)
     while status == MEMORY and size <= GREATEST // 2:
         size *= 2
@@ -67,8 +68,10 @@ def answer(run, command, lefs, definition):
 
 def main(words):
     """Answers a command line, and returns the exit status."""
+    flags = WIDE if words[:1] == ["--wide"] else 0
+    words = words[1:] if flags else words
     if len(words) < 3 or words[0] not in COMMANDS:
-        print("usage: check.py COMMAND DEF LEF...", file=sys.stderr)
+        print("usage: check.py [--wide] COMMAND DEF LEF...", file=sys.stderr)
         return 64
     texts = []
     for path in words[1:]:
@@ -78,7 +81,8 @@ def main(words):
         except OSError as error:
             print(f"cannot read {path}: {error.strerror}", file=sys.stderr)
             return 5
-    status, text = answer(load(os.environ.get("LEFDEF_LIBRARY", ".")), words[0], texts[1:], texts[0])
+    number = COMMANDS.index(words[0]) + flags
+    status, text = answer(load(os.environ.get("LEFDEF_LIBRARY", ".")), number, texts[1:], texts[0])
     try:
         sys.stdout.buffer.write(text)
         sys.stdout.buffer.flush()

@@ -2,7 +2,7 @@
  *
  *     lent ANSWER STATUS NUMBER DEF LEF...
  *
- * ANSWER is the file of the expected answer, STATUS the expected status, NUMBER that of the command. Each failure has a line, and the last
+ * ANSWER is the file of the expected answer, STATUS the expected status, NUMBER that of the command with its flags. Each failure has a line, and the last
  * line is 'N passed, M failed'. The exit status is 0 only if some passed and none failed.
  */
 #include "lefdef.h"
@@ -140,14 +140,47 @@ static void try_buffers(struct question it, struct answer answer, struct lefdef_
     }
 }
 
-/* A number that is no command has no answer. */
+/* A number that is no command, or has flags that do not go together, has no answer. */
 static void try_numbers(struct question it, struct lefdef_memory memory)
 {
-    static const uint32_t numbers[] = {LEFDEF_FINISH + 1, 64, UINT32_MAX};
+    static const uint32_t numbers[] = {
+        LEFDEF_PRINT + 1,
+        64,
+        LEFDEF_WIDE - 1,
+        LEFDEF_PRINT + 1 + LEFDEF_WIDE,
+        LEFDEF_CHECK + LEFDEF_MASKS_DROP,
+        LEFDEF_CHECK + LEFDEF_SOFT_DROP,
+        LEFDEF_CHECK + LEFDEF_SOFT_HARD,
+        LEFDEF_PRINT + LEFDEF_MASKS_DROP + LEFDEF_SOFT_DROP,
+        LEFDEF_CHECK + LEFDEF_WIDE + LEFDEF_SOFT_DROP + LEFDEF_SOFT_HARD,
+        LEFDEF_CHECK + LEFDEF_WIDE + LEFDEF_MASKS_DROP + LEFDEF_SOFT_DROP + LEFDEF_SOFT_HARD,
+        LEFDEF_CHECK + 2 * LEFDEF_SOFT_HARD,
+        LEFDEF_CHECK + 2 * LEFDEF_SOFT_HARD + LEFDEF_WIDE,
+        UINT32_MAX,
+    };
     struct answer none = {LEFDEF_USAGE, lefdef_text_of(NULL, 0)};
     for (size_t at = 0; at < sizeof numbers / sizeof numbers[0]; at++) {
         it.number = numbers[at];
-        count(is_answered(it, memory, 100, none), "a number that is no command is answered", it.number);
+        count(is_answered(it, memory, 100, none), "a number that asks nothing is answered", it.number);
+    }
+}
+
+/* Each profile gives this answer: no text has a form that one of them reads in another way. */
+static void try_profiles(struct question it, struct answer answer, struct lefdef_memory memory)
+{
+    static const uint32_t profiles[] = {
+        0,
+        LEFDEF_WIDE,
+        LEFDEF_WIDE + LEFDEF_MASKS_DROP,
+        LEFDEF_WIDE + LEFDEF_SOFT_DROP,
+        LEFDEF_WIDE + LEFDEF_SOFT_HARD,
+        LEFDEF_WIDE + LEFDEF_MASKS_DROP + LEFDEF_SOFT_DROP,
+        LEFDEF_WIDE + LEFDEF_MASKS_DROP + LEFDEF_SOFT_HARD,
+    };
+    uint32_t command = it.number % LEFDEF_WIDE;
+    for (size_t at = 0; at < sizeof profiles / sizeof profiles[0]; at++) {
+        it.number = command + profiles[at];
+        count(is_answered(it, memory, answer.text.length + 64, answer), "this profile gives another answer", it.number);
     }
 }
 
@@ -188,6 +221,7 @@ int main(int words, char **word)
     try_sizes(question, answer);
     try_buffers(question, answer, memory);
     try_numbers(question, memory);
+    try_profiles(question, answer, memory);
     try_regions(question, answer);
     printf("%d passed, %d failed\n", passed, failed);
     return failed > 0 || passed == 0;

@@ -39,7 +39,7 @@ class ExamplesTests(unittest.TestCase):
 
     def test_each_command_is_shown(self):
         commands = {command.split()[1] for command, _ in shown('README.md') + shown('docs', 'TUTORIAL.md')}
-        self.assertLessEqual({'check', 'place-check', 'measure', 'legalise', 'route', 'flow', 'finish', 'compare'}, commands)
+        self.assertLessEqual({'check', 'place-check', 'measure', 'legalise', 'route', 'flow', 'finish', 'print', 'compare'}, commands)
 
 
 if __name__ == '__main__':

@@ -219,7 +219,10 @@ class AnswerTests(Room):
         calls = ('check', 'place_check', 'measure', 'legalise', 'route', 'flow', 'finish')
         for name in calls:
             self.assertTrue(getattr(lefdef_text, name)('a.def', ['b.lef'], self.program('legal\n')).is_legal)
-        self.assertEqual(text_of(os.path.join(self.room, 'calls')).split('\n'), [*(f'{name.replace("_", "-")} a.def b.lef' for name in calls), ''])
+        self.assertTrue(lefdef_text.print_design('a.def', ['b.lef'], self.program('legal\n')).is_legal)
+        self.assertTrue(lefdef_text.run('check', 'a.def', ['b.lef'], self.program('legal\n'), options=['--wide', '--masks', 'drop']).is_legal)
+        self.assertEqual(text_of(os.path.join(self.room, 'calls')).split('\n'), [
+            *(f'{name.replace("_", "-")} a.def b.lef' for name in calls), 'print a.def b.lef', '--wide --masks drop check a.def b.lef', ''])
 
     def test_a_comparison(self):
         answer = lefdef_text.compare('a.def', 'b.def', ['c.lef', 'd.lef'], self.program('CHANGED COMPONENT u2 PLACE\nplaces 1\n', 1))

@@ -590,6 +590,8 @@ class RefusalTests(ViewCase):
             if answer[:1] == ['REFUSED']:
                 with open(case(name, 'words'), encoding='utf-8') as file:
                     command, *paths = file.read().split()
+                if command.startswith('--'):
+                    continue  # (the tool takes no options of the program)
                 count = 2 if command == 'compare' else 1
                 blocks, libraries = ([case(name, path) for path in part] for part in (paths[:count], paths[count:]))
                 block = blocks[max(int(answer[1]) - len(libraries), 0)]

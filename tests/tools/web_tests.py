@@ -23,17 +23,18 @@ from web_page import examples, page_text  # noqa: E402
 
 PAGE = os.path.join(TOP, 'web', 'index.html')
 CASES = os.path.join(TOP, 'tests', 'program')
-COMMANDS = ('check', 'place-check', 'measure', 'legalise', 'route', 'flow', 'finish')
+COMMANDS = ('check', 'place-check', 'measure', 'legalise', 'route', 'flow', 'finish', 'print')
+NARROW = {'isWide': False, 'masks': 'refused', 'soft': 'refused'}
 LIST_ENDS = ('legal', 'violations', 'FIXEDILLEGAL', 'NOTCLEAN')
 NUMBERS = {'u8': 'Uint8Array', 'i32': 'Int32Array', 'f64': 'Float64Array'}
 MARK = (230, 0, 126)
 
 # What runs in the page: the worker is asked as the page asks it, about files that were given to an input of the test's own.
-ASK = """(command, names, wanted) => new Promise((done) => {
+ASK = """(command, profile, names, wanted) => new Promise((done) => {
   const files = [...document.getElementById('given').files];
   const texts = names.map((name, at) => ({ name, file: files[at] }));
   const said = {};
-  shownPage.asker.ask(command, texts.slice(1), texts[0], ({ answer, picture, failure }) => {
+  shownPage.asker.ask(command, profile, texts.slice(1), texts[0], ({ answer, picture, failure }) => {
     if (answer) Object.assign(said, answer);
     else done({ ...said, picture, failure });
   });
@@ -59,13 +60,25 @@ def text_of(path):
         return file.read()
 
 
+def behind_options(words):
+    """Returns the profile that the options before a command ask for, and the words behind them."""
+    profile, words = dict(NARROW), [*words]
+    while words and words[0] in ('--wide', '--masks', '--soft'):
+        option = words.pop(0)
+        if option == '--wide':
+            profile['isWide'] = True
+        else:
+            profile[option[2:]] = words.pop(0) if words else ''
+    return profile, words
+
+
 class Case:
     """A case of tests/program with a command and texts that are there. It stands in a folder of its own, and those that are too large to be kept
     are made there."""
 
     def __init__(self, name, room):
         self.name, self.folder = name, os.path.join(CASES, name)
-        self.words = text_of(os.path.join(self.folder, 'words')).splitlines()
+        self.profile, self.words = behind_options(text_of(os.path.join(self.folder, 'words')).splitlines())
         self.is_made = os.path.exists(os.path.join(self.folder, 'make'))
         if self.is_made:
             made = os.path.join(room, name)
@@ -97,6 +110,8 @@ class Case:
         library, before, listed = read_library(libraries), None, None
         if self.status() == 0 and command in ('legalise', 'route', 'flow', 'finish'):
             design_path, before = stdout, read_design(design_path, library)
+        elif command == 'print':
+            design_path = stdout
         elif lines and lines[-1].split(' ')[0] in LIST_ENDS:
             listed = stdout
         design = read_design(design_path, library)
@@ -114,13 +129,14 @@ def unpacked(numbers):
 
 
 def cases(room, is_made):
-    """Yields the cases that a page can be asked: a command, a DEF and LEFs that are files."""
+    """Yields the cases that a page can be asked: options, a command, a DEF and LEFs that are files."""
     for name in sorted(os.listdir(CASES)):
         folder = os.path.join(CASES, name)
         if not os.path.exists(os.path.join(folder, 'words')) or os.path.exists(os.path.join(folder, 'make')) != is_made:
             continue
         found = Case(name, room)
-        if not os.path.exists(os.path.join(folder, 'out')) and found.words[0] in COMMANDS and len(found.words) > 2 and all(map(os.path.isfile, found.paths()[:-1])):
+        is_command = len(found.words) > 2 and found.words[0] in COMMANDS and found.status() != 64
+        if not os.path.exists(os.path.join(folder, 'out')) and is_command and all(map(os.path.isfile, found.paths()[:-1])):
             yield found
 
 
@@ -189,19 +205,19 @@ class BrowserTests(unittest.TestCase):
     def prepare_questions(self):
         self.page.run('document.body.append(Object.assign(document.createElement("input"), { type: "file", multiple: true, id: "given" }))')
 
-    def ask(self, command, names, paths, is_drawn=False):
+    def ask(self, command, names, paths, is_drawn=False, profile=None):
         """Asks the worker a command on the files of these paths, of which the last is what is to be printed."""
         # (an input takes a file once)
         given = [path if paths.index(path) == at else shutil.copy(path, os.path.join(self.room, f'copy{at}')) for at, path in enumerate(paths)]
         self.page.give_files('#given', given)
-        return self.page.run(f'({ASK})({json.dumps(command)}, {json.dumps(names)}, {json.dumps(is_drawn)})', seconds=300)
+        return self.page.run(f'({ASK})({json.dumps(command)}, {json.dumps(profile or NARROW)}, {json.dumps(names)}, {json.dumps(is_drawn)})', seconds=300)
 
     def check_case(self, one, is_drawn):
         if one.paths()[-1] == os.devnull:
             paths = [*one.paths()[:-1], self.write('empty', '')]
         else:
             paths = one.paths()
-        said = self.ask(one.words[0], one.words[1:], paths, is_drawn)
+        said = self.ask(one.words[0], one.words[1:], paths, is_drawn, one.profile)
         self.assertIsNone(said.get('failure'))
         self.assertEqual((said['status'], said['isSame']), (one.status(), True), said['head'])
         self.assertEqual(said['message'], one.file('stderr').decode())
@@ -301,6 +317,19 @@ class BrowserTests(unittest.TestCase):
                 break
             self.page.run('new Promise((done) => setTimeout(done, 50))')
         self.assertEqual(text_of(os.path.join(folder, 'rows-legalise.def')), printed)
+
+    def test_a_command_is_asked_in_the_profile_that_is_chosen(self):
+        self.page.run('(() => { window.asked = []; shownPage.asker.ask = (command, profile) => window.asked.push(profile); })()')
+        shown = 'getComputedStyle(document.getElementById("options")).display !== "none"'
+        self.page.give_files('#files', [example('wired.def'), STANDARD])
+        self.page.until('window.asked.length === 1')
+        self.assertFalse(self.page.run(shown))
+        self.page.click('#wide')
+        self.assertTrue(self.page.run(shown))
+        self.page.run('(() => { document.getElementById("masks").value = "drop"; document.getElementById("soft").value = "hard"; shownPage.run(); })()')
+        self.page.run('document.querySelector("#examples button").click()')
+        self.assertFalse(self.page.run(shown))
+        self.assertEqual(self.page.run('window.asked'), [NARROW, {'isWide': True, 'masks': 'drop', 'soft': 'hard'}, {'isWide': False, 'masks': 'drop', 'soft': 'hard'}])
 
     def run_case(self, name):
         """Gives the page the texts of a case, and runs its command."""

@@ -8,7 +8,8 @@
     read_violations(path)                    the violations that `lefdef check` or `place-check` listed
     read_answer(path)                        whatever lefdef printed: its lines, violations, or the text of a design
     check(path, paths)                       the answer of `lefdef check`, which it runs on a DEF and its LEFs; also place_check, measure,
-                                             legalise, route, flow, finish, and compare of two DEFs
+                                             legalise, route, flow, finish, print_design, and compare of two DEFs
+    run(command, path, paths, options=[..])  the answer of any command, behind options such as --wide
     wiring_of(design.nets.values())          how long wires are, by layer, and how many vias there are
     tolerant.read_faults(path, paths)        everything in a DEF and its LEFs for which they are refused
 
@@ -17,7 +18,7 @@ meaning is refused (`Refused`), with its file, the line of the word at fault, an
 the number of its entries are not judged. Keywords are compared without regard to the case of their letters, names as they
 are written.
 """
-from .answers import Answer, NotRun, Refusal, check, compare, finish, flow, legalise, measure, place_check, read_answer, route, run
+from .answers import Answer, NotRun, Refusal, check, compare, finish, flow, legalise, measure, place_check, print_design, read_answer, route, run
 from .def_reader import read_design
 from .design import Blockage, Component, Design, Net, Patch, Pin, Place, Port, Row, Segment, Shape, Tracks, ViaAt
 from .lef_reader import read_library
@@ -32,5 +33,5 @@ __all__ = [
     'Answer', 'Blockage', 'Component', 'Design', 'FORMS', 'Layer', 'Library', 'Line', 'Macro', 'MacroPin', 'Net', 'NotRun', 'ORIENTATIONS',
     'Patch', 'Pin', 'Place', 'Port', 'Rect', 'Refusal', 'Refused', 'Row', 'Segment', 'Shape', 'Site', 'TURNS', 'Tracks', 'VIOLATION_LINES',
     'Via', 'ViaAt', 'Violation', 'Wiring', 'Words', 'check', 'compare', 'finish', 'flow', 'grown', 'least_box', 'legalise', 'measure', 'meets',
-    'message_of', 'moved', 'ordered', 'place_check', 'read_answer', 'read_design', 'read_library', 'read_text', 'read_violations', 'route',
-    'run', 'shown', 'turned', 'wiring_of']
+    'message_of', 'moved', 'ordered', 'place_check', 'print_design', 'read_answer', 'read_design', 'read_library', 'read_text', 'read_violations',
+    'route', 'run', 'shown', 'turned', 'wiring_of']

@@ -122,9 +122,10 @@ def program_path(program=None):
     return found
 
 
-def run(command, design, libraries, program=None, seconds=None):
-    """Runs a command of lefdef on a DEF and its LEFs, and returns the answer; `seconds` is the most that it may take."""
-    words = [program_path(program), command, design, *libraries]
+def run(command, design, libraries, program=None, seconds=None, options=()):
+    """Runs a command of lefdef on a DEF and its LEFs, and returns the answer; `seconds` is the most that it may take, and `options` are the words
+    before the command."""
+    words = [program_path(program), *options, command, design, *libraries]
     try:
         done = subprocess.run(words, stdin=subprocess.DEVNULL, capture_output=True, check=False, timeout=seconds)
     except OSError as error:
@@ -169,3 +170,7 @@ def compare(before, after, libraries, program=None):
 
 def finish(design, libraries, program=None):
     return run('finish', design, libraries, program)
+
+
+def print_design(design, libraries, program=None):
+    return run('print', design, libraries, program)

@@ -2,7 +2,8 @@
 //!
 //! `lefdef COMMAND DEF LEF...` reads the files, asks `leg_app` and writes its answer. With no arguments it reads one
 //! LEF that ends in END LIBRARY and then one DEF from standard input, and runs `check`. `lefdef compare BEFORE AFTER LEF...` tells what
-//! differs between two DEFs. `lefdef --help` prints help, and `lefdef --version` the program's version.
+//! differs between two DEFs. Options before the command say in which profile texts are read. `lefdef --help` prints help, and
+//! `lefdef --version` the program's version.
 #![tactic(auto)]
 
 mod help;
@@ -10,9 +11,9 @@ mod rounds;
 
 use help::{VERSION, help_text};
 use leg_app::{
-    Asked, CompareLine, FILE_LIMIT, Halt, InputFault, Line, Progress, Reason, RunFault,
-    STREAM_LIMIT, Side, Status, asked_by, read_all, run_compare, run_explained, run_help, run_out,
-    run_stream_explained,
+    Asked, CompareLine, FILE_LIMIT, Halt, InputFault, Line, Profile, Progress, Reason, RunFault,
+    STREAM_LIMIT, Side, Status, asked_by, read_all, run_compare_as, run_explained_as, run_help,
+    run_out, run_stream_explained,
 };
 use leg_app_message::{NotingWriter, Paths, Texts, message, order_message, stream_message};
 use rounds::Rounds;
@@ -33,6 +34,8 @@ fn main(rt: HostRuntime) -> ExitCode {
 enum Stop<'a> {
     // The program ends without one, for this cause where the system gave one.
     Halt(Halt<'a>, Option<io::Error>),
+    // The command line is wrong at this word: an option, or what stands behind options.
+    WrongWord(&'a str),
     // An allocation failed.
     Memory,
 }
@@ -76,6 +79,7 @@ fn answered<'a, R: Runtime + AllocGlobal, P: Progress>(
         Some(Asked::Version) => on_version(rt),
         Some(Asked::Compare(line)) => on_two_files(rt, &line),
         Some(Asked::Files(line)) => on_files(rt, &line, progress),
+        Some(Asked::WrongOption(word)) => Err(Stop::WrongWord(word)),
         None => Err(Stop::Halt(Halt::Usage, None)),
     }
 }
@@ -153,10 +157,25 @@ fn on_texts<R: Runtime + AllocGlobal, A: Allocator, P: Progress>(
     progress: &mut P,
 ) -> Result<Status, Stop<'static>> {
     let mut out = NotingWriter::new(io::writer(rt));
-    let ran = run_explained(rt.alloc(), line.command, lefs, def, &mut out, progress);
+    let ran = run_explained_as(
+        rt.alloc(),
+        line.command,
+        line.profile,
+        lefs,
+        def,
+        &mut out,
+        progress,
+    );
     let ended = written(ran, out.error())?;
     if let Some(reason) = &ended.reason {
-        explain(rt, message_on(rt, line.lefs, line.def, lefs, def, reason));
+        let files = Files {
+            profile: line.profile,
+            lef_paths: line.lefs,
+            def_path: line.def,
+            lefs,
+            def,
+        };
+        explain(rt, message_on(rt, &files, reason));
     }
     Ok(ended.status)
 }
@@ -170,7 +189,7 @@ fn on_two_texts<R: Runtime + AllocGlobal, A: Allocator>(
     after: &[u8],
 ) -> Result<Status, Stop<'static>> {
     let mut out = NotingWriter::new(io::writer(rt));
-    let ran = run_compare(rt.alloc(), lefs, before, after, &mut out);
+    let ran = run_compare_as(rt.alloc(), line.profile, lefs, before, after, &mut out);
     let ended = written(ran, out.error())?;
     match &ended.reason {
         Some(stopped) => {
@@ -178,8 +197,14 @@ fn on_two_texts<R: Runtime + AllocGlobal, A: Allocator>(
                 Side::Before => (line.before, before),
                 Side::After => (line.after, after),
             };
-            let message = message_on(rt, line.lefs, path, lefs, def, &stopped.reason);
-            explain(rt, message);
+            let files = Files {
+                profile: line.profile,
+                lef_paths: line.lefs,
+                def_path: path,
+                lefs,
+                def,
+            };
+            explain(rt, message_on(rt, &files, &stopped.reason));
         }
         None => {
             let (first, second) = (line.before.as_bytes(), line.after.as_bytes());
@@ -189,26 +214,34 @@ fn on_two_texts<R: Runtime + AllocGlobal, A: Allocator>(
     Ok(ended.status)
 }
 
-// The message on a run over the texts of files of these paths that stopped for this reason.
-fn message_on<'t, R: Runtime + AllocGlobal, A: Allocator>(
-    rt: &R,
+// Files that were read, by their paths, with their texts and the profile in which these are read.
+#[derive(Drop)]
+struct Files<'t, A: Allocator> {
+    profile: Profile,
     lef_paths: &'t [String<A>],
     def_path: &'t str,
     lefs: &'t [&'t [u8]],
     def: &'t [u8],
+}
+
+// The message on a run over the texts of these files that stopped for this reason.
+fn message_on<R: Runtime + AllocGlobal, A: Allocator>(
+    rt: &R,
+    files: &Files<'_, A>,
     reason: &Reason<'_, Global>,
 ) -> Result<Vec<u8>, AllocError> {
     let mut paths = Vec::new(rt.alloc());
-    for path in lef_paths {
+    for path in files.lef_paths {
         paths.push(path.as_bytes())?;
     }
     let texts = Texts {
+        profile: files.profile,
         paths: Some(Paths {
             lefs: &paths,
-            def: def_path.as_bytes(),
+            def: files.def_path.as_bytes(),
         }),
-        lefs,
-        def,
+        lefs: files.lefs,
+        def: files.def,
     };
     message(rt.alloc(), &texts, reason)
 }
@@ -288,6 +321,10 @@ fn explain<R: Runtime + AllocGlobal>(rt: &R, message: Result<Vec<u8>, AllocError
 fn stopped<R: Runtime + AllocGlobal>(rt: &R, stop: Stop<'_>) -> u8 {
     match stop {
         Stop::Halt(halt, cause) => halted(rt, &halt, cause),
+        Stop::WrongWord(word) => {
+            name_wrong_word(rt, word);
+            halted(rt, &Halt::Usage, None)
+        }
         Stop::Memory => {
             let mut out = NotingWriter::new(io::writer(rt));
             match run_out(&mut out) {
@@ -298,13 +335,26 @@ fn stopped<R: Runtime + AllocGlobal>(rt: &R, stop: Stop<'_>) -> u8 {
     }
 }
 
+// Names on standard error the word at which the command line is wrong.
+fn name_wrong_word<R: Runtime + AllocGlobal>(rt: &R, word: &str) {
+    let said = if word == "--wide" || word == "--masks" || word == "--soft" {
+        eprintln!(rt;
+            "lefdef: {word} is wrong here: --wide, --masks drop, and --soft drop or --soft hard may stand once each before the command, the last two with --wide"
+        )
+    } else {
+        eprintln!(rt; "lefdef: {word} is no command")
+    };
+    // A message that can't be written changes no status.
+    let _ = said;
+}
+
 // Denotes on standard error why the program ends without an answer, and gives the exit status.
 fn halted<R: Runtime + AllocGlobal>(rt: &R, halt: &Halt<'_>, cause: Option<io::Error>) -> u8 {
     let said = match halt {
         Halt::NotRead(path) => eprintln!(rt; "cannot read {path}"),
         Halt::NotWritten => eprintln!(rt; "cannot write"),
         Halt::Usage => eprintln!(rt;
-            "usage: lefdef COMMAND DEF LEF...\n       lefdef compare BEFORE AFTER LEF...\nCOMMAND is check, place-check, measure, legalise, route, flow or finish; lefdef --help says more"
+            "usage: lefdef COMMAND DEF LEF...\n       lefdef compare BEFORE AFTER LEF...\nCOMMAND is check, place-check, measure, legalise, route, flow, finish or print; lefdef --help says more"
         ),
     };
     // A message that can't be written changes no status.

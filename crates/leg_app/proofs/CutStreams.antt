@@ -9,6 +9,8 @@ use Rattle.leg_lex.specs.declared.read_fault.FaultKind.TheVariants as kinds
 use Rattle.leg_app_input.specs.declared.command.Command.TheVariants.{Check}
 use Rattle.leg_app.specs.declared.status.Status.{Status}
 use Rattle.leg_app.specs.declared.status.Status.TheVariants.{Success, Violations, Refused, Unsolved, Memory}
+use Rattle.leg_grammar.specs.declared.profile.Profile.{Profile}
+use Rattle.leg_grammar.specs.declared.profile.Profile.TheVariants.{Narrow}
 use Rattle.leg_grammar.specs.Texts.{DenoteNothing}
 use Rattle.leg_app_input.specs.Stream.{end_library}
 use Rattle.leg_output.specs.Commands.Check.{no_library_text}
@@ -82,27 +84,28 @@ module _ (needle : List ℕ) where
       ap (take limit) e ∙ ap (λ n. take n ((before ++ needle) ++ after)) sum ∙ take-append-add (before ++ needle) after rest
 
 -- texts of which one is too long say no design
-too_long : (lef def : List ℕ) → (TEXT_LIMIT < length lef) ⊎ (TEXT_LIMIT < length def) → DenoteNothing (lef ∷ []) def
-too_long lef def (inl long) library design say = omega (arith, long, say.under.lef.1.fits)
+too_long : (lef def : List ℕ) → (TEXT_LIMIT < length lef) ⊎ (TEXT_LIMIT < length def) → DenoteNothing Narrow (lef ∷ []) def
+too_long lef def (inl long) library design say = omega (arith, long, say.under.lef.1.1.fits)
 too_long lef def (inr long) library design say = omega (arith, long, say.said.fits)
 
 -- what is answered to texts that say nothing is answered to all such texts
-answer_to_nothing : (lefs : List (List ℕ)) (def other : List ℕ) (status : Status) (text : List ℕ) → DenoteNothing lefs def → DenoteNothing lefs other
-    → IsAnswer Check lefs def status text → IsAnswer Check lefs other status text
-answer_to_nothing lefs def other Success text none none_too (inl lists) = absurd (none lists.library lists.design lists.say)
-answer_to_nothing lefs def other Success text none none_too (inr (inl told)) = absurd (none told.library told.design told.say)
-answer_to_nothing lefs def other Success text none none_too (inr (inr printed)) = absurd (none printed.library printed.design printed.say)
-answer_to_nothing lefs def other Unsolved text none none_too told = absurd (none told.library told.design told.say)
-answer_to_nothing lefs def other Violations text none none_too answer = absurd (none answer.library answer.design answer.say)
-answer_to_nothing lefs def other Memory text none none_too answer = answer
-answer_to_nothing lefs def other Refused text none none_too (inl refusal) = inl (record { nothing = none_too; reason = refusal.reason })
-answer_to_nothing lefs def other Refused text none none_too (inr much) = absurd (none much.many.library much.many.design much.many.say)
+answer_to_nothing : (profile : Profile) (lefs : List (List ℕ)) (def other : List ℕ) (status : Status) (text : List ℕ) → DenoteNothing profile lefs def
+    → DenoteNothing profile lefs other
+    → IsAnswer Check profile lefs def status text → IsAnswer Check profile lefs other status text
+answer_to_nothing profile lefs def other Success text none none_too (inl lists) = absurd (none lists.library lists.design lists.say)
+answer_to_nothing profile lefs def other Success text none none_too (inr (inl told)) = absurd (none told.library told.design told.say)
+answer_to_nothing profile lefs def other Success text none none_too (inr (inr printed)) = absurd (none printed.library printed.design printed.say)
+answer_to_nothing profile lefs def other Unsolved text none none_too told = absurd (none told.library told.design told.say)
+answer_to_nothing profile lefs def other Violations text none none_too answer = absurd (none answer.library answer.design answer.say)
+answer_to_nothing profile lefs def other Memory text none none_too answer = answer
+answer_to_nothing profile lefs def other Refused text none none_too (inl refusal) = inl (record { nothing = none_too; reason = refusal.reason })
+answer_to_nothing profile lefs def other Refused text none none_too (inr much) = absurd (none much.many.library much.many.design much.many.say)
 
 -- no library is told, where the LEF is too long
 long_lef_answer : (lef def : List ℕ) (status : Status) (text : List ℕ) → TEXT_LIMIT < length lef → status ≡ Refused → text ≡ no_library_text
-    → IsAnswer Check (lef ∷ []) def status text
+    → IsAnswer Check Narrow (lef ∷ []) def status text
 long_lef_answer lef def status text long refused is =
-    subst (λ s. IsAnswer Check (lef ∷ []) def s text) (sym refused)
+    subst (λ s. IsAnswer Check Narrow (lef ∷ []) def s text) (sym refused)
     (inl (record {
       nothing = too_long lef def (inl long);
       reason =
@@ -138,7 +141,8 @@ module _ (limit : ℕ) (beyond : 2 * TEXT_LIMIT < limit) (stream : List ℕ) (lo
               ];
         };
         answer =
-            answer_to_nothing (parts.lef ∷ []) parts.def def status text (too_long parts.lef parts.def too) (too_long parts.lef def too_whole) parts.answer;
+            answer_to_nothing Narrow (parts.lef ∷ []) parts.def def status text (too_long parts.lef parts.def too) (too_long parts.lef def too_whole)
+            parts.answer;
       }
 
   no_library_answered : ReportsNoLibrary (take limit stream) status text → IsStreamAnswer stream status text

@@ -6,8 +6,9 @@ use Rattle.leg_lex.specs.declared.limits.TheConstants.{TEXT_LIMIT}
 use Rattle.leg_lex.specs.Words.{Words}
 use Rattle.std.proofs.Common.{Option}
 use Rattle.leg_lex.specs.Denotes.{Denotes}
-use Rattle.leg_lib_records.specs.Records.{RawLibraryModel, LibraryModel, empty_library}
-use Rattle.leg_grammar.specs.Lef.Form.{lef_in}
+use Rattle.leg_lib_records.specs.Records.{LibraryModel}
+use Rattle.leg_grammar.specs.declared.profile.Profile.{Profile}
+use Rattle.leg_grammar.specs.Lef.Form.{LefParts, no_lef_parts, lef_in}
 use Rattle.leg_grammar.specs.Lef.Library.{Extend}
 use Rattle.leg_design_records.specs.Records.{DesignModel}
 use Rattle.leg_grammar.specs.Def.Header.{units_in}
@@ -39,43 +40,43 @@ module _ (limit : ℕ) (beyond : TEXT_LIMIT < limit) where
     says_cut : Denotes reading text said → Denotes reading (take limit text) said
     says_cut says = subst (λ t. Denotes reading t said) (sym (whole_text text says.fits)) says
 
-  cut_extends : (before library : RawLibraryModel) (lefs : List (List ℕ)) → Extend before (map (take limit) lefs) library → Extend before lefs library
-  cut_extends before library [] extends = extends
-  cut_extends before library (lef ∷ lefs) extends = (extends.0, cut_says (lef_in before) lef extends.0 extends.1, cut_extends extends.0 library lefs extends.2)
+  cut_extends : (before parts : LefParts) (lefs : List (List ℕ)) → Extend before (map (take limit) lefs) parts → Extend before lefs parts
+  cut_extends before parts [] extends = extends
+  cut_extends before parts (lef ∷ lefs) extends = (extends.0, cut_says (lef_in before) lef extends.0 extends.1, cut_extends extends.0 parts lefs extends.2)
 
-  extends_cut : (before library : RawLibraryModel) (lefs : List (List ℕ)) → Extend before lefs library → Extend before (map (take limit) lefs) library
-  extends_cut before library [] extends = extends
-  extends_cut before library (lef ∷ lefs) extends = (extends.0, says_cut (lef_in before) lef extends.0 extends.1, extends_cut extends.0 library lefs extends.2)
+  extends_cut : (before parts : LefParts) (lefs : List (List ℕ)) → Extend before lefs parts → Extend before (map (take limit) lefs) parts
+  extends_cut before parts [] extends = extends
+  extends_cut before parts (lef ∷ lefs) extends = (extends.0, says_cut (lef_in before) lef extends.0 extends.1, extends_cut extends.0 parts lefs extends.2)
 
-  module _ (lefs : List (List ℕ)) (def : List ℕ) where
-    cut_designs : (library : LibraryModel) (design : DesignModel) → DenoteDesign (map (take limit) lefs) (take limit def) library design
-        → DenoteDesign lefs def library design
+  module _ (profile : Profile) (lefs : List (List ℕ)) (def : List ℕ) where
+    cut_designs : (library : LibraryModel) (design : DesignModel) → DenoteDesign profile (map (take limit) lefs) (take limit def) library design
+        → DenoteDesign profile lefs def library design
     cut_designs library design say = record {
       under = record {
         raw = say.under.raw;
         units = say.under.units;
-        lef = cut_extends empty_library say.under.raw lefs say.under.lef;
+        lef = (say.under.lef.0, cut_extends (no_lef_parts profile) say.under.lef.0 lefs say.under.lef.1, say.under.lef.2);
         unit = cut_says units_in def say.under.units say.under.unit;
         scaled = say.under.scaled;
       };
-      said = cut_says (design_in library) def design say.said;
+      said = cut_says (design_in profile library) def design say.said;
     }
 
-    designs_cut : (library : LibraryModel) (design : DesignModel) → DenoteDesign lefs def library design
-        → DenoteDesign (map (take limit) lefs) (take limit def) library design
+    designs_cut : (library : LibraryModel) (design : DesignModel) → DenoteDesign profile lefs def library design
+        → DenoteDesign profile (map (take limit) lefs) (take limit def) library design
     designs_cut library design say = record {
       under = record {
         raw = say.under.raw;
         units = say.under.units;
-        lef = extends_cut empty_library say.under.raw lefs say.under.lef;
+        lef = (say.under.lef.0, extends_cut (no_lef_parts profile) say.under.lef.0 lefs say.under.lef.1, say.under.lef.2);
         unit = says_cut units_in def say.under.units say.under.unit;
         scaled = say.under.scaled;
       };
-      said = says_cut (design_in library) def design say.said;
+      said = says_cut (design_in profile library) def design say.said;
     }
 
-    cut_lists : (command : Command) (status : Status) (text : List ℕ) → ListsViolations command (map (take limit) lefs) (take limit def) status text
-        → ListsViolations command lefs def status text
+    cut_lists : (command : Command) (status : Status) (text : List ℕ) → ListsViolations command profile (map (take limit) lefs) (take limit def) status text
+        → ListsViolations command profile lefs def status text
     cut_lists command status text lists = record {
       library = lists.library;
       design = lists.design;
@@ -87,8 +88,8 @@ module _ (limit : ℕ) (beyond : TEXT_LIMIT < limit) where
       is = lists.is;
     }
 
-    cut_measures : (command : Command) (text : List ℕ) → ReportsWirelength command (map (take limit) lefs) (take limit def) text
-        → ReportsWirelength command lefs def text
+    cut_measures : (command : Command) (text : List ℕ) → ReportsWirelength command profile (map (take limit) lefs) (take limit def) text
+        → ReportsWirelength command profile lefs def text
     cut_measures command text told = record {
       measures = told.measures;
       library = told.library;
@@ -99,7 +100,8 @@ module _ (limit : ℕ) (beyond : TEXT_LIMIT < limit) where
       is = told.is;
     }
 
-    cut_made : (command : Command) (text : List ℕ) → PrintsMade command (map (take limit) lefs) (take limit def) text → PrintsMade command lefs def text
+    cut_made : (command : Command) (text : List ℕ) → PrintsMade command profile (map (take limit) lefs) (take limit def) text
+        → PrintsMade command profile lefs def text
     cut_made command text printed = record {
       library = printed.library;
       design = printed.design;
@@ -107,8 +109,8 @@ module _ (limit : ℕ) (beyond : TEXT_LIMIT < limit) where
       made = printed.made;
     }
 
-    cut_unsolved : (command : Command) (text : List ℕ) → ReportsUnsolved command (map (take limit) lefs) (take limit def) text
-        → ReportsUnsolved command lefs def text
+    cut_unsolved : (command : Command) (text : List ℕ) → ReportsUnsolved command profile (map (take limit) lefs) (take limit def) text
+        → ReportsUnsolved command profile lefs def text
     cut_unsolved command text told = record {
       library = told.library;
       design = told.design;
@@ -116,8 +118,8 @@ module _ (limit : ℕ) (beyond : TEXT_LIMIT < limit) where
       reason = told.reason;
     }
 
-    pub cut_answers : (command : Command) (status : Status) (text : List ℕ) → IsAnswer command (map (take limit) lefs) (take limit def) status text
-        → IsAnswer command lefs def status text
+    pub cut_answers : (command : Command) (status : Status) (text : List ℕ) → IsAnswer command profile (map (take limit) lefs) (take limit def) status text
+        → IsAnswer command profile lefs def status text
     cut_answers command Success text (inl lists) = inl (cut_lists command Success text lists)
     cut_answers command Success text (inr (inl told)) = inr (inl (cut_measures command text told))
     cut_answers command Success text (inr (inr printed)) = inr (inr (cut_made command text printed))

@@ -14,6 +14,7 @@ use Rattle.leg_app.specs.declared.status.Status.{Status}
 use Rattle.leg_app.specs.declared.status.Status.TheVariants.{Success, Violations, Refused, Unsolved, Memory}
 use Rattle.leg_output.specs.Commands.Compare.{comparison_text}
 use Rattle.leg_app.specs.Comparison.{status_of, Compares, HasOtherUnits, ReportsNotCompared, IsComparison}
+use Rattle.leg_grammar.specs.declared.profile.Profile.{Profile}
 use Rattle.leg_app.proofs.OneAnswer.{SayOneDesign}
 
 -- Two lists of all differences are equal.
@@ -96,8 +97,9 @@ module _ (first : DesignModel) (list : List Difference) where
   one_verdict : (v w : Verdict) → IsVerdict first list v → IsVerdict first list w → v ≡ w
   one_verdict v w p q = one_told v w (told v p) (told w q)
 
-module _ (lefs : List (List ℕ)) (before after : List ℕ) (one_before : SayOneDesign lefs before) (one_after : SayOneDesign lefs after) where
-  one_compared : (status other : Status) (text words : List ℕ) → Compares lefs before after status text → Compares lefs before after other words
+module _ (profile : Profile) (lefs : List (List ℕ)) (before after : List ℕ) (one_before : SayOneDesign profile lefs before)
+    (one_after : SayOneDesign profile lefs after) where
+  one_compared : (status other : Status) (text words : List ℕ) → Compares profile lefs before after status text → Compares profile lefs before after other words
       → (status ≡ other) × (text ≡ words)
   one_compared status other text words p q =
       let firsts : p.first ≡ q.first = (one_before p.library q.library p.first q.first p.say_first q.say_first).1 in
@@ -116,25 +118,28 @@ module _ (lefs : List (List ℕ)) (before after : List ℕ) (one_before : SayOne
       )
 
   -- designs of one library are not at other units
-  units_or_compared : (status : Status) (text words : List ℕ) → Compares lefs before after status text → HasOtherUnits lefs before after words → ⊥
+  units_or_compared : (status : Status) (text words : List ℕ) → Compares profile lefs before after status text → HasOtherUnits profile lefs before after words
+      → ⊥
   units_or_compared status text words p q =
       let here : p.library ≡ q.library = (one_before p.library q.library p.first q.first p.say_first q.say_first).0 in
       let there : p.library ≡ q.other = (one_after p.library q.other p.second q.second p.say_second q.say_second).0 in
       q.apart (ap (λ l. l.units) (sym here ∙ there))
 
-  compared_not_refused : (status : Status) (text words : List ℕ) → Compares lefs before after status text → ReportsNotCompared lefs before after words → ⊥
+  compared_not_refused : (status : Status) (text words : List ℕ) → Compares profile lefs before after status text
+      → ReportsNotCompared profile lefs before after words → ⊥
   compared_not_refused status text words p q = elim q.nothing [
     | inl nothing ↦ nothing p.library p.first p.say_first
     | inr nothing ↦ nothing p.library p.second p.say_second
   ]
 
-  units_not_refused : (text words : List ℕ) → HasOtherUnits lefs before after text → ReportsNotCompared lefs before after words → ⊥
+  units_not_refused : (text words : List ℕ) → HasOtherUnits profile lefs before after text → ReportsNotCompared profile lefs before after words → ⊥
   units_not_refused text words p q = elim q.nothing [
     | inl nothing ↦ nothing p.library p.first p.say_first
     | inr nothing ↦ nothing p.other p.second p.say_second
   ]
 
-  pub one_comparison : (status other : Status) (text words : List ℕ) → IsComparison lefs before after status text → IsComparison lefs before after other words
+  pub one_comparison : (status other : Status) (text words : List ℕ) → IsComparison profile lefs before after status text
+      → IsComparison profile lefs before after other words
       → status ≢ Refused → status ≢ Memory → other ≢ Memory → (status ≡ other) × (text ≡ words)
   one_comparison Refused other text words p q kept first second = absurd (kept refl)
   one_comparison Memory other text words p q kept first second = absurd (first refl)

@@ -8,7 +8,7 @@ use Rattle.leg_rules.specs.Legalise.Moves.{AreMoves}
 use Rattle.leg_legal.specs.Refusals.{IsLegaliseRefusal}
 use Rattle.leg_legal.proofs.OneOutcome.{one_design, one_list_of_moves, one_cause, no_outcome}
 use Rattle.leg_app_input.specs.declared.command.Command.{Command}
-use Rattle.leg_app_input.specs.declared.command.Command.TheVariants.{PlaceCheck, Check, Measure, Legalise, Route, Flow, Finish}
+use Rattle.leg_app_input.specs.declared.command.Command.TheVariants.{PlaceCheck, Check, Measure, Legalise, Route, Flow, Finish, Print}
 use Rattle.leg_output.specs.Commands.Legalise.{legalised_text, fixed_illegal_text, no_site_text, no_room_text}
 use Rattle.leg_app.specs.LegaliseResult.{PrintsLegalised, ReportsNotLegalised}
 use Rattle.leg_app.specs.LegaliseResult.ReportsNotLegalised.{fixed_illegal, no_site, no_room}
@@ -73,6 +73,7 @@ one_made Legalise design text words first second third p q = one_legalised desig
 one_made Route design text words first second third p q = absurd (first refl)
 one_made Flow design text words first second third p q = absurd (second refl)
 one_made Finish design text words first second third p q = absurd (third refl)
+one_made Print design text words first second third p q = p.is ∙ sym q.is
 
 pub one_reason_told : (command : Command) (design : DesignModel) (text words : List ℕ) → command ≢ Route → command ≢ Flow → command ≢ Finish
     → IsReason command design text → IsReason command design words → text ≡ words
@@ -83,6 +84,7 @@ one_reason_told Legalise design text words first second third p q = one_reason d
 one_reason_told Route design text words first second third p q = absurd (first refl)
 one_reason_told Flow design text words first second third p q = absurd (second refl)
 one_reason_told Finish design text words first second third p q = absurd (third refl)
+one_reason_told Print design text words first second third p q = absurd p
 
 pub made_or_not : (command : Command) (design : DesignModel) (text words : List ℕ) → command ≢ Route → command ≢ Flow → command ≢ Finish
     → IsTextMade command design text → IsReason command design words → ⊥
@@ -93,6 +95,7 @@ made_or_not Legalise design text words first second third p q = legalised_or_not
 made_or_not Route design text words first second third p q = first refl
 made_or_not Flow design text words first second third p q = second refl
 made_or_not Finish design text words first second third p q = third refl
+made_or_not Print design text words first second third p q = q
 
 -- what a command makes of a design, or why it makes nothing of it
 abbrev pub IsOutcome : Command → DesignModel → List ℕ → Type 0
@@ -110,6 +113,7 @@ shown_or_made Legalise design other flat text shown outcome = shown
 shown_or_made Route design other flat text shown outcome = shown
 shown_or_made Flow design other flat text shown outcome = shown
 shown_or_made Finish design other flat text shown outcome = shown
+shown_or_made Print design other flat text shown outcome = shown
 
 pub no_outcome_of_measure : (design : DesignModel) (text : List ℕ) → IsOutcome Measure design text → ⊥
 no_outcome_of_measure design text (inl made) = made

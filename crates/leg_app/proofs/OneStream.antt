@@ -6,6 +6,8 @@ use Rattle.leg_app_input.specs.declared.command.Command.TheVariants.{Check, Rout
 use Rattle.leg_app_input.specs.Stream.{end_library, StandsBehind, IsSplit}
 use Rattle.leg_app.specs.declared.status.Status.{Status}
 use Rattle.leg_app.specs.declared.status.Status.TheVariants.{Refused, Memory}
+use Rattle.leg_grammar.specs.declared.profile.Profile.{Profile}
+use Rattle.leg_grammar.specs.declared.profile.Profile.TheVariants.{Narrow}
 use Rattle.leg_app.specs.Answer.{IsAnswer, IsStreamAnswer}
 
 -- END LIBRARY stands in the stream behind what is before it in the front
@@ -32,8 +34,8 @@ one_split stream front back before behind p q =
 
 -- a command that does not route has one answer at most
 abbrev pub HasOneAnswer : Type 0
-HasOneAnswer = (command : Command) (lefs : List (List ℕ)) (def : List ℕ) (status other : Status) (text words : List ℕ)
-    → IsAnswer command lefs def status text → IsAnswer command lefs def other words
+HasOneAnswer = (command : Command) (profile : Profile) (lefs : List (List ℕ)) (def : List ℕ) (status other : Status) (text words : List ℕ)
+    → IsAnswer command profile lefs def status text → IsAnswer command profile lefs def other words
     → command ≢ Route → command ≢ Flow → command ≢ Finish → status ≢ Refused → status ≢ Memory → other ≢ Memory → (status ≡ other) × (text ≡ words)
 
 pub one_stream_answer : HasOneAnswer → (stream : List ℕ) (status other : Status) (text words : List ℕ)
@@ -44,6 +46,6 @@ one_stream_answer one stream status other text words (inl p) (inr none) known fu
     absurd (none.none (p.split.text, ends_in_stream stream p.lef p.def p.split))
 one_stream_answer one stream status other text words (inl p) (inl q) known full left =
     let same = one_split stream p.lef p.def q.lef q.def p.split q.split in
-    let at_lef : IsAnswer Check (q.lef ∷ []) p.def status text = subst (λ lef. IsAnswer Check (lef ∷ []) p.def status text) same.0 p.answer in
-    let at_def : IsAnswer Check (q.lef ∷ []) q.def status text = subst (λ def. IsAnswer Check (q.lef ∷ []) def status text) same.1 at_lef in
-    one Check (q.lef ∷ []) q.def status other text words at_def q.answer (λ is. cc) (λ is. cc) (λ is. cc) known full left
+    let at_lef : IsAnswer Check Narrow (q.lef ∷ []) p.def status text = subst (λ lef. IsAnswer Check Narrow (lef ∷ []) p.def status text) same.0 p.answer in
+    let at_def : IsAnswer Check Narrow (q.lef ∷ []) q.def status text = subst (λ def. IsAnswer Check Narrow (q.lef ∷ []) def status text) same.1 at_lef in
+    one Check Narrow (q.lef ∷ []) q.def status other text words at_def q.answer (λ is. cc) (λ is. cc) (λ is. cc) known full left

@@ -6,7 +6,7 @@ use Rattle.leg_lex.specs.declared.read_fault.FaultKind.TheVariants as kinds
 use Rattle.leg_lib_records.specs.declared.scale_fault.ScaleKind.{ScaleKind}
 use Rattle.leg_lib_records.specs.declared.scale_fault.ScaleKind.TheVariants as scale
 use Rattle.leg_app_input.specs.declared.command.Command.{Command}
-use Rattle.leg_app_input.specs.declared.command.Command.TheVariants.{PlaceCheck, Check, Measure, Legalise, Route, Flow, Finish}
+use Rattle.leg_app_input.specs.declared.command.Command.TheVariants.{PlaceCheck, Check, Measure, Legalise, Route, Flow, Finish, Print}
 use Rattle.leg_app.specs.declared.status.Status.{Status}
 use Rattle.leg_app.specs.declared.status.Status.TheVariants.{Success, Violations, Refused, Unsolved, Memory}
 use Rattle.leg_lib_records.specs.Records.{LibraryModel}
@@ -17,6 +17,8 @@ use Rattle.leg_rules.specs.Metal.Flat.{FlatModel, IsJudgedBy}
 use Rattle.leg_rules.specs.Placement.Violations.{IsPlacementViolation}
 use Rattle.leg_rules.specs.Wirelength.{IsWirelength}
 use Rattle.leg_app.specs.TooManyShapes.{DenoteTooMany}
+use Rattle.leg_grammar.specs.declared.profile.Profile.{Profile}
+use Rattle.leg_grammar.specs.declared.profile.Profile.TheVariants.{Narrow}
 use Rattle.leg_grammar.specs.Texts.{DenoteDesign, DenoteNothing}
 use Rattle.leg_rules.specs.Violations.{IsViolation}
 use Rattle.leg_app_input.specs.Stream.{HasEndLibrary, IsSplit}
@@ -32,6 +34,7 @@ Lists Legalise design fault = ⊥
 Lists Route design fault = ⊥
 Lists Flow design fault = ⊥
 Lists Finish design fault = ⊥
+Lists Print design fault = ⊥
 
 -- the flat that is judged, and whose shapes and pieces the lines name: none, or the design's own; the other commands show
 -- none
@@ -45,6 +48,7 @@ IsShown Legalise design flat = ⊥
 IsShown Route design flat = ⊥
 IsShown Flow design flat = ⊥
 IsShown Finish design flat = ⊥
+IsShown Print design flat = ⊥
 
 -- the status and the text for these violations: `legal` where there are none, and else a line for each and their number
 abbrev pub IsListing : DesignModel → Option FlatModel → List Fault → Status → List ℕ → Type 0
@@ -55,23 +59,23 @@ IsListing design flat violations Unsolved text = ⊥
 IsListing design flat violations Memory text = ⊥
 
 -- the texts denote a design, and the status and the text list its violations
-pub record ListsViolations (command : Command) (lefs : List (List ℕ)) (def : List ℕ) (status : Status) (text : List ℕ) : Type 0 where
+pub record ListsViolations (command : Command) (profile : Profile) (lefs : List (List ℕ)) (def : List ℕ) (status : Status) (text : List ℕ) : Type 0 where
   pub library : LibraryModel
   pub design : DesignModel
   pub flat : Option FlatModel
   pub violations : List Fault
-  pub say : DenoteDesign lefs def library design
+  pub say : DenoteDesign profile lefs def library design
   pub shown : IsShown command design flat
   pub list : IsListOf (Lists command design) violations
   pub is : IsListing design flat violations status text
 
 -- the texts denote a design, and its wirelength is printed
-pub record ReportsWirelength (command : Command) (lefs : List (List ℕ)) (def text : List ℕ) : Type 0 where
+pub record ReportsWirelength (command : Command) (profile : Profile) (lefs : List (List ℕ)) (def text : List ℕ) : Type 0 where
   pub measures : command ≡ Measure
   pub library : LibraryModel
   pub design : DesignModel
   pub length : ℤ
-  pub say : DenoteDesign lefs def library design
+  pub say : DenoteDesign profile lefs def library design
   pub measured : IsWirelength design length
   pub is : text ≡ wirelength_text length
 
@@ -88,24 +92,24 @@ pub record ReportsScale (text : List ℕ) : Type 0 where
   pub is : text ≡ scale_text name kind
 
 -- the texts denote no design, and a reason is printed
-pub record ReportsRefusal (lefs : List (List ℕ)) (def text : List ℕ) : Type 0 where
-  pub nothing : DenoteNothing lefs def
+pub record ReportsRefusal (profile : Profile) (lefs : List (List ℕ)) (def text : List ℕ) : Type 0 where
+  pub nothing : DenoteNothing profile lefs def
   pub reason : ReportsFault text ⊎ ReportsScale text
 
 -- they denote one with more shapes than a flat may have
-pub record ReportsTooMany (command : Command) (lefs : List (List ℕ)) (def text : List ℕ) : Type 0 where
+pub record ReportsTooMany (command : Command) (profile : Profile) (lefs : List (List ℕ)) (def text : List ℕ) : Type 0 where
   pub flattens : command ≡ Check
-  pub many : DenoteTooMany lefs def
+  pub many : DenoteTooMany profile lefs def
   pub is : text ≡ too_many_text
 
 -- The text and the status are an answer of the command to these texts.
-abbrev pub IsAnswer : Command → List (List ℕ) → List ℕ → Status → List ℕ → Type 0
-IsAnswer command lefs def Success text =
-    ListsViolations command lefs def Success text ⊎ (ReportsWirelength command lefs def text ⊎ PrintsMade command lefs def text)
-IsAnswer command lefs def Violations text = ListsViolations command lefs def Violations text
-IsAnswer command lefs def Refused text = ReportsRefusal lefs def text ⊎ ReportsTooMany command lefs def text
-IsAnswer command lefs def Unsolved text = ReportsUnsolved command lefs def text
-IsAnswer command lefs def Memory text = text ≡ memory_text
+abbrev pub IsAnswer : Command → Profile → List (List ℕ) → List ℕ → Status → List ℕ → Type 0
+IsAnswer command profile lefs def Success text =
+    ListsViolations command profile lefs def Success text ⊎ (ReportsWirelength command profile lefs def text ⊎ PrintsMade command profile lefs def text)
+IsAnswer command profile lefs def Violations text = ListsViolations command profile lefs def Violations text
+IsAnswer command profile lefs def Refused text = ReportsRefusal profile lefs def text ⊎ ReportsTooMany command profile lefs def text
+IsAnswer command profile lefs def Unsolved text = ReportsUnsolved command profile lefs def text
+IsAnswer command profile lefs def Memory text = text ≡ memory_text
 
 -- A writer took a whole answer of this status: what it holds, where it shows its bytes, grew by the text.
 pub record TakesAnswer (Answers : Status → List ℕ → Type 0) (status : Status) (before after : Option (List ℕ)) : Type 0 where
@@ -133,7 +137,7 @@ pub record AnswersParts (stream : List ℕ) (status : Status) (text : List ℕ) 
   pub lef : List ℕ
   pub def : List ℕ
   pub split : IsSplit stream lef def
-  pub answer : IsAnswer Check (lef ∷ []) def status text
+  pub answer : IsAnswer Check Narrow (lef ∷ []) def status text
 
 pub record ReportsNoLibrary (stream : List ℕ) (status : Status) (text : List ℕ) : Type 0 where
   pub none : ¬ HasEndLibrary stream

@@ -4,6 +4,7 @@ pub mod Refusal
 pub mod LegaliseResult
 pub mod RouteResult
 pub mod FinishResult
+pub mod PrintResult
 pub mod FlowResult
 pub mod Results
 pub mod Answer

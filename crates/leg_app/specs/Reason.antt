@@ -7,6 +7,8 @@ use Rattle.leg_lex.specs.declared.read_fault.Need.TheVariants as needs
 use Rattle.leg_lib_records.specs.declared.scale_fault.ScaleKind.TheVariants as scale
 use Rattle.leg_lib_records.specs.Records.{LibraryModel, MasterModel}
 use Rattle.leg_design_records.specs.Records.{DesignModel}
+use Rattle.leg_grammar.specs.declared.profile.Profile.{Profile}
+use Rattle.leg_grammar.specs.declared.profile.Profile.TheVariants.{Narrow}
 use Rattle.leg_grammar.specs.Def.Header.{units_in}
 use Rattle.leg_rules.specs.Metal.Flat.{FlatModel, IsFlatOf}
 use Rattle.leg_rules.specs.declared.grid_limits.TheConstants.{GRID_LIMIT, GREATEST_GRID}
@@ -18,7 +20,7 @@ use Rattle.leg_output.specs.Names.{piece_text}
 use Rattle.leg_design_records.specs.Names.{net_name, name_by}
 use Rattle.leg_output.specs.Lines.{piece_at}
 use Rattle.leg_app_input.specs.declared.command.Command.{Command}
-use Rattle.leg_app_input.specs.declared.command.Command.TheVariants.{PlaceCheck, Check, Measure, Legalise, Route, Flow, Finish}
+use Rattle.leg_app_input.specs.declared.command.Command.TheVariants.{PlaceCheck, Check, Measure, Legalise, Route, Flow, Finish, Print}
 use Rattle.leg_app_reason.specs.declared.reason.Stage.{Stage}
 use Rattle.leg_app_reason.specs.declared.reason.Stage.TheVariants.{Given, Legalised}
 use Rattle.leg_app_reason.specs.declared.reason.Reason.{Reason}
@@ -103,6 +105,7 @@ stage_of Legalise = Given
 stage_of Route = Given
 stage_of Flow = Legalised
 stage_of Finish = Given
+stage_of Print = Given
 
 abbrev pub IsRoutedBy : Command → DesignModel → DesignModel → Type 0
 IsRoutedBy PlaceCheck design routed = ⊥
@@ -112,6 +115,7 @@ IsRoutedBy Legalise design routed = ⊥
 IsRoutedBy Route design routed = design ≡ routed
 IsRoutedBy Flow design routed = Legalises design routed
 IsRoutedBy Finish design routed = design ≡ routed
+IsRoutedBy Print design routed = ⊥
 
 -- how many tracks, and slots of the grid, the command takes at most
 abbrev pub grid_limit : Command → ℕ
@@ -122,6 +126,7 @@ grid_limit Legalise = 0
 grid_limit Route = GRID_LIMIT
 grid_limit Flow = GRID_LIMIT
 grid_limit Finish = GREATEST_GRID
+grid_limit Print = 0
 
 -- what the reason of a command over this design says besides is so
 abbrev pub IsSoOfDesign : {A : Type 0} → Command → DesignModel → Reason A → Type 0
@@ -133,27 +138,27 @@ needed_master library (needs.KnownPin number) = Some (name_by (λ (m : MasterMod
 needed_master library need = None
 
 -- texts denote nothing, and the macro whose pin is needed is one of their library
-pub record AreNotRead (lefs : List (List ℕ)) (def : List ℕ) (need : Need) (master : Option (List ℕ)) : Type 0 where
-  pub nothing : DenoteNothing lefs def
-  pub of_library : (library : LibraryModel) → DenoteLibraryFor lefs def library → master ≡ needed_master library need
+pub record AreNotRead (profile : Profile) (lefs : List (List ℕ)) (def : List ℕ) (need : Need) (master : Option (List ℕ)) : Type 0 where
+  pub nothing : DenoteNothing profile lefs def
+  pub of_library : (library : LibraryModel) → DenoteLibraryFor profile lefs def library → master ≡ needed_master library need
 
 -- texts denote nothing, and these are the units of the DEF
-pub record AreNotScaled (lefs : List (List ℕ)) (def : List ℕ) (units : ℕ) : Type 0 where
-  pub nothing : DenoteNothing lefs def
+pub record AreNotScaled (profile : Profile) (lefs : List (List ℕ)) (def : List ℕ) (units : ℕ) : Type 0 where
+  pub nothing : DenoteNothing profile lefs def
   pub units_are : Denotes units_in def units
 
 -- texts denote a design, and what the command's reason says besides is so
-pub record IsOfDesign {A : Type 0} (command : Command) (lefs : List (List ℕ)) (def : List ℕ) (reason : Reason A) : Type 0 where
+pub record IsOfDesign {A : Type 0} (command : Command) (profile : Profile) (lefs : List (List ℕ)) (def : List ℕ) (reason : Reason A) : Type 0 where
   pub library : LibraryModel
   pub design : DesignModel
-  pub say : DenoteDesign lefs def library design
+  pub say : DenoteDesign profile lefs def library design
   pub holds : IsSoOfDesign command design reason
 
 -- What the reason says besides is so of the texts.
-abbrev pub IsSoOfTexts : {A : Type 0} → Command → List (List ℕ) → List ℕ → Reason A → Type 0
-IsSoOfTexts command lefs def (Read fault master) = AreNotRead lefs def fault.need master
-IsSoOfTexts command lefs def (Scale fault units) = AreNotScaled lefs def units
-IsSoOfTexts command lefs def reason = IsOfDesign command lefs def reason
+abbrev pub IsSoOfTexts : {A : Type 0} → Command → Profile → List (List ℕ) → List ℕ → Reason A → Type 0
+IsSoOfTexts command profile lefs def (Read fault master) = AreNotRead profile lefs def fault.need master
+IsSoOfTexts command profile lefs def (Scale fault units) = AreNotScaled profile lefs def units
+IsSoOfTexts command profile lefs def reason = IsOfDesign command profile lefs def reason
 
 -- an answer of this status has a reason, or has none
 abbrev pub HasReason : Status → Type 0
@@ -176,15 +181,15 @@ Explains IsSo status None text = HasNoReason status
 Explains IsSo status (Some reason) text = HasReason status × ReportsReason reason text × IsSo reason
 
 -- The text and the status are an answer of the command to these texts, and this is its reason.
-pub record IsExplained {A : Type 0} (command : Command) (lefs : List (List ℕ)) (def : List ℕ) (reason : Option (Reason A)) (status : Status)
+pub record IsExplained {A : Type 0} (command : Command) (profile : Profile) (lefs : List (List ℕ)) (def : List ℕ) (reason : Option (Reason A)) (status : Status)
     (text : List ℕ) : Type 0 where
-  pub answer : IsAnswer command lefs def status text
-  pub explains : Explains (IsSoOfTexts command lefs def) status reason text
+  pub answer : IsAnswer command profile lefs def status text
+  pub explains : Explains (IsSoOfTexts command profile lefs def) status reason text
 
 -- The same of a stream: of its LEF and its DEF, or where no LEF ends in it.
 abbrev pub IsSoOfStream : {A : Type 0} → List ℕ → Reason A → Type 0
 IsSoOfStream stream NoLibrary = ¬ HasEndLibrary stream
-IsSoOfStream stream reason = (lef : List ℕ) × (def : List ℕ) × IsSplit stream lef def × IsSoOfTexts Check (lef ∷ []) def reason
+IsSoOfStream stream reason = (lef : List ℕ) × (def : List ℕ) × IsSplit stream lef def × IsSoOfTexts Check Narrow (lef ∷ []) def reason
 
 pub record IsStreamExplained {A : Type 0} (stream : List ℕ) (reason : Option (Reason A)) (status : Status) (text : List ℕ) : Type 0 where
   pub answer : IsStreamAnswer stream status text

@@ -4,11 +4,12 @@ use Rattle.leg_lib_records.specs.Records.{LibraryModel}
 use Rattle.leg_design_records.specs.Records.{DesignModel}
 use Rattle.leg_design_records.specs.declared.limits.TheConstants.{PART_LIMIT}
 use Rattle.leg_rules.specs.Metal.Metal.{metal_of}
+use Rattle.leg_grammar.specs.declared.profile.Profile.{Profile}
 use Rattle.leg_grammar.specs.Texts.{DenoteDesign}
 
 -- a design with more shapes than a flat may have is denoted
-pub record DenoteTooMany (lefs : List (List ℕ)) (def : List ℕ) : Type 0 where
+pub record DenoteTooMany (profile : Profile) (lefs : List (List ℕ)) (def : List ℕ) : Type 0 where
   pub library : LibraryModel
   pub design : DesignModel
-  pub say : DenoteDesign lefs def library design
+  pub say : DenoteDesign profile lefs def library design
   pub many : PART_LIMIT < length (metal_of design)

@@ -4,6 +4,8 @@ ghost use Rattle.std.specs.Prelude.{◌≡◌, ℕ, List, None, Some, map, optio
 ghost use Rattle.leg_app_input.specs.declared.command.Command.TheVariants.{PlaceCheck, Check, Measure};
 ghost use Rattle.leg_app.specs.declared.status.Status.TheVariants.{Unsolved};
 ghost use Rattle.leg_app.specs.declared.text_fault.TextFault.TheVariants.{Read};
+ghost use Rattle.leg_grammar.specs.declared.profile.Profile.TheVariants.{Narrow};
+ghost use Rattle.leg_grammar.specs.declared.profile.Profile.{Profile};
 ghost use Rattle.leg_grammar.specs.Texts.{DenoteDesign, DenoteNothing};
 ghost use Rattle.leg_app.specs.Steps.OneLibrary.{DenotesJust};
 ghost use Rattle.leg_app.specs.Refusal.{Refuses, HasUnitsOf};
@@ -14,6 +16,7 @@ ghost use Rattle.leg_app.specs.Steps.FaultReasons.{IsOfMaster};
 use crate::finish_answer::finish_answer;
 use crate::flow_answer::flow_answer;
 use crate::legalise_answer::legalise_answer;
+use crate::print_answer::print_answer;
 use crate::route_answer::route_answer;
 use crate::status::Status;
 use crate::text_fault::TextFault;
@@ -26,6 +29,7 @@ use leg_design::DefText;
 use leg_design_records::{Design, Fault};
 use leg_finish::Progress;
 use leg_flat::{Flat, FlatFault};
+use leg_grammar::Profile;
 use leg_lex::{FaultKind, Need, ReadFault};
 use leg_lib_records::{Items, Library, ScaleKind};
 use leg_place::place_faults;
@@ -54,7 +58,29 @@ pub(crate) fn unsolved<'e, A: Allocator>(text: Vec<u8, A>, reason: Reason<'e, A>
     }
 }
 
-/// What the command answers to the texts of the LEFs, in order, and of the DEF. The progress is told of each round of `finish`.
+/// What the command answers to the texts of the LEFs, in order, and of the DEF, read in a profile. The progress is told of each round of
+/// `finish`.
+pub fn answer_to_as<'a, A: Allocator + Copy, P: Progress>(
+    alloc: A,
+    command: Command,
+    profile: Profile,
+    lefs: &[&'a [u8]],
+    def: &[u8],
+    progress: &mut P,
+) -> Result<Answer<'a, A>, AllocError>
+    ensures { IfOk result (λ answer.
+        IsExplained command profile (map (λ t. t.now) lefs.now) def.now answer.reason answer.status answer.text.items) }
+{
+    match library_for(alloc, profile, lefs, def) {
+        Ok((library, text)) => {
+            let count = lefs.len();
+            library_answer(alloc, command, profile, count, &library, text, progress)
+        }
+        Err(fault) => refusal(alloc, command, fault, None),
+    }
+}
+
+/// What the command answers to texts that are read in the narrow profile: `answer_to_as` of `Profile::Narrow`.
 pub fn answer_to<'a, A: Allocator + Copy, P: Progress>(
     alloc: A,
     command: Command,
@@ -63,27 +89,25 @@ pub fn answer_to<'a, A: Allocator + Copy, P: Progress>(
     progress: &mut P,
 ) -> Result<Answer<'a, A>, AllocError>
     ensures { IfOk result (λ answer.
-        IsExplained command (map (λ t. t.now) lefs.now) def.now answer.reason answer.status answer.text.items) }
+        IsExplained command Narrow (map (λ t. t.now) lefs.now) def.now answer.reason answer.status answer.text.items) }
 {
-    match library_for(alloc, lefs, def) {
-        Ok((library, text)) => library_answer(alloc, command, lefs.len(), &library, text, progress),
-        Err(fault) => refusal(alloc, command, fault, None),
-    }
+    answer_to_as(alloc, command, Profile::Narrow, lefs, def, progress)
 }
 
 // What is answered to a DEF after this many LEFs, where the texts denote this library and no other.
 fn library_answer<'e, A: Allocator + Copy, P: Progress>(
     alloc: A,
     command: Command,
+    profile: Profile,
     count: usize,
     library: &Library<'_, A>,
     def: DefText<'_, A>,
     progress: &mut P,
 ) -> Result<Answer<'e, A>, AllocError>
-    ensures { IfOk result (λ answer. (lefs : List (List ℕ)) → DenotesJust lefs def.entry library.now
-        → IsExplained command lefs def.entry answer.reason answer.status answer.text.items) }
+    ensures { IfOk result (λ answer. (lefs : List (List ℕ)) → DenotesJust profile lefs def.entry library.now
+        → IsExplained command profile lefs def.entry answer.reason answer.status answer.text.items) }
 {
-    match def.design(alloc, library) {
+    match def.design_as(alloc, profile, library) {
         Ok(design) => design_answer(alloc, command, design, progress),
         Err(fault) => {
             let master = needed_master(alloc, library, fault.need)?;
@@ -127,14 +151,15 @@ fn design_answer<'e, A: Allocator + Copy, P: Progress>(
     design: Design<'_, A>,
     progress: &mut P,
 ) -> Result<Answer<'e, A>, AllocError>
-    ensures { IfOk result (λ answer. (lefs : List (List ℕ)) (def : List ℕ) →
-        DenoteDesign lefs def design.entry.library design.entry →
-        IsExplained command lefs def answer.reason answer.status answer.text.items) }
+    ensures { IfOk result (λ answer. (profile : Profile) (lefs : List (List ℕ)) (def : List ℕ) →
+        DenoteDesign profile lefs def design.entry.library design.entry →
+        IsExplained command profile lefs def answer.reason answer.status answer.text.items) }
 {
     match command {
         Command::Check => whole_answer(alloc, &design),
         Command::PlaceCheck => placement_answer(alloc, &design),
         Command::Measure => measure_answer(alloc, &design),
+        Command::Print => print_answer(alloc, &design),
         Command::Legalise => legalise_answer(alloc, design),
         Command::Route => route_answer(alloc, design),
         Command::Flow => flow_answer(alloc, design),
@@ -146,9 +171,9 @@ fn placement_answer<'e, A: Allocator + Copy>(
     alloc: A,
     design: &Design<'_, A>,
 ) -> Result<Answer<'e, A>, AllocError>
-    ensures { IfOk result (λ answer. (lefs : List (List ℕ)) (def : List ℕ) →
-        DenoteDesign lefs def design.now.library design.now →
-        IsExplained PlaceCheck lefs def answer.reason answer.status answer.text.items) }
+    ensures { IfOk result (λ answer. (profile : Profile) (lefs : List (List ℕ)) (def : List ℕ) →
+        DenoteDesign profile lefs def design.now.library design.now →
+        IsExplained PlaceCheck profile lefs def answer.reason answer.status answer.text.items) }
 {
     let violations = place_faults(alloc, design.library(), design)?;
     let no_flat: Option<Flat<A>> = None;
@@ -159,9 +184,9 @@ fn whole_answer<'e, A: Allocator + Copy>(
     alloc: A,
     design: &Design<'_, A>,
 ) -> Result<Answer<'e, A>, AllocError>
-    ensures { IfOk result (λ answer. (lefs : List (List ℕ)) (def : List ℕ) →
-        DenoteDesign lefs def design.now.library design.now →
-        IsExplained Check lefs def answer.reason answer.status answer.text.items) }
+    ensures { IfOk result (λ answer. (profile : Profile) (lefs : List (List ℕ)) (def : List ℕ) →
+        DenoteDesign profile lefs def design.now.library design.now →
+        IsExplained Check profile lefs def answer.reason answer.status answer.text.items) }
 {
     match check_design(alloc, design) {
         Ok(checked) => listing(alloc, design, Some(&checked.flat), &checked.violations),
@@ -178,9 +203,9 @@ fn measure_answer<'e, A: Allocator + Copy>(
     alloc: A,
     design: &Design<'_, A>,
 ) -> Result<Answer<'e, A>, AllocError>
-    ensures { IfOk result (λ answer. (lefs : List (List ℕ)) (def : List ℕ) →
-        DenoteDesign lefs def design.now.library design.now →
-        IsExplained Measure lefs def answer.reason answer.status answer.text.items) }
+    ensures { IfOk result (λ answer. (profile : Profile) (lefs : List (List ℕ)) (def : List ℕ) →
+        DenoteDesign profile lefs def design.now.library design.now →
+        IsExplained Measure profile lefs def answer.reason answer.status answer.text.items) }
 {
     let length = hpwl(design.library(), design);
     let text = wirelength_text(alloc, length)?;
@@ -225,9 +250,9 @@ fn refusal<'a, A: Allocator + Copy>(
     fault: TextFault<'a>,
     master: Option<Items<u8, A>>,
 ) -> Result<Answer<'a, A>, AllocError>
-    ensures { IfOk result (λ answer. (lefs : List (List ℕ)) (def : List ℕ) →
-        Refuses (DenoteNothing lefs def) ⊥ fault.entry → HasUnitsOf def fault.entry → IsOfMaster lefs def fault.entry master →
-        IsExplained command lefs def answer.reason answer.status answer.text.items) }
+    ensures { IfOk result (λ answer. (profile : Profile) (lefs : List (List ℕ)) (def : List ℕ) →
+        Refuses (DenoteNothing profile lefs def) ⊥ fault.entry → HasUnitsOf def fault.entry → IsOfMaster profile lefs def fault.entry master →
+        IsExplained command profile lefs def answer.reason answer.status answer.text.items) }
 {
     match fault {
         TextFault::Read(fault) => unread(alloc, command, fault, master),
@@ -250,9 +275,9 @@ fn unread<'e, A: Allocator + Copy>(
     fault: ReadFault,
     master: Option<Items<u8, A>>,
 ) -> Result<Answer<'e, A>, AllocError>
-    ensures { IfOk result (λ answer. (lefs : List (List ℕ)) (def : List ℕ) →
-        Refuses (DenoteNothing lefs def) ⊥ (Read fault) → IsOfMaster lefs def (Read fault) master →
-        IsExplained command lefs def answer.reason answer.status answer.text.items) }
+    ensures { IfOk result (λ answer. (profile : Profile) (lefs : List (List ℕ)) (def : List ℕ) →
+        Refuses (DenoteNothing profile lefs def) ⊥ (Read fault) → IsOfMaster profile lefs def (Read fault) master →
+        IsExplained command profile lefs def answer.reason answer.status answer.text.items) }
 {
     if fault.kind == FaultKind::Memory {
         return Err(AllocError);

@@ -5,6 +5,8 @@ ghost use Rattle.leg_lex.specs.Denotes.{Denotes};
 ghost use Rattle.leg_lex.specs.declared.read_fault.FaultKind.TheVariants as kinds;
 ghost use Rattle.leg_lib_records.specs.Records.{LibraryModel};
 ghost use Rattle.leg_design_records.specs.Records.{DesignModel};
+ghost use Rattle.leg_grammar.specs.declared.profile.Profile.TheVariants.{Narrow};
+ghost use Rattle.leg_grammar.specs.declared.profile.Profile.{Profile};
 ghost use Rattle.leg_grammar.specs.Def.Header.{units_in};
 ghost use Rattle.leg_grammar.specs.Def.Form.{design_in};
 ghost use Rattle.leg_rules.specs.declared.difference.Section.TheVariants.{Components, Nets};
@@ -28,6 +30,7 @@ use leg_app_reason::Reason;
 use leg_compare::{OtherOrder, Verdict, differences, other_order, verdict_of};
 use leg_design::DefText;
 use leg_design_records::Design;
+use leg_grammar::Profile;
 use leg_lex::{FaultKind, ReadFault};
 use leg_lib_records::{Items, Library, ScaleKind};
 use std::alloc::{AllocError, Allocator};
@@ -35,35 +38,51 @@ use std::alloc::{AllocError, Allocator};
 // What is printed of designs at other units.
 const OTHER_UNITS: &[u8] = b"DIFFERS UNITS\ndiffers 1\n";
 
-/// What `compare` answers to the texts of the LEFs, in order, and of two DEFs: all that differs between the designs that they denote.
+/// What `compare` answers to the texts of the LEFs, in order, and of two DEFs, read in a profile: all that differs between the designs that
+/// they denote.
+pub fn compare_texts_as<'a, A: Allocator + Copy>(
+    alloc: A,
+    profile: Profile,
+    lefs: &[&'a [u8]],
+    before: &[u8],
+    after: &[u8],
+) -> Result<ComparisonAnswer<'a, A>, AllocError>
+    ensures { IfOk result (λ answer. IsComparisonExplained profile (map (λ t. t.now) lefs.now) before.now after.now
+        answer.reason answer.order answer.status answer.text.items) }
+{
+    match library_for(alloc, profile, lefs, before) {
+        Ok((library, text)) => library_comparison(alloc, profile, lefs, &library, text, after),
+        Err(fault) => refusal(alloc, Side::Before, fault, None),
+    }
+}
+
+/// The same of texts that are read in the narrow profile: `compare_texts_as` of `Profile::Narrow`.
 pub fn compare_texts<'a, A: Allocator + Copy>(
     alloc: A,
     lefs: &[&'a [u8]],
     before: &[u8],
     after: &[u8],
 ) -> Result<ComparisonAnswer<'a, A>, AllocError>
-    ensures { IfOk result (λ answer. IsComparisonExplained (map (λ t. t.now) lefs.now) before.now after.now
+    ensures { IfOk result (λ answer. IsComparisonExplained Narrow (map (λ t. t.now) lefs.now) before.now after.now
         answer.reason answer.order answer.status answer.text.items) }
 {
-    match library_for(alloc, lefs, before) {
-        Ok((library, text)) => library_comparison(alloc, lefs, &library, text, after),
-        Err(fault) => refusal(alloc, Side::Before, fault, None),
-    }
+    compare_texts_as(alloc, Profile::Narrow, lefs, before, after)
 }
 
 // What is answered where the LEFs and the first DEF denote this library and no other.
 fn library_comparison<'a, A: Allocator + Copy>(
     alloc: A,
+    profile: Profile,
     lefs: &[&'a [u8]],
     library: &Library<'_, A>,
     before: DefText<'_, A>,
     after: &[u8],
 ) -> Result<ComparisonAnswer<'a, A>, AllocError>
-    ensures { IfOk result (λ answer. DenotesJust (map (λ t. t.now) lefs.now) before.entry library.now
-        → IsComparisonExplained (map (λ t. t.now) lefs.now) before.entry after.now answer.reason answer.order answer.status answer.text.items) }
+    ensures { IfOk result (λ answer. DenotesJust profile (map (λ t. t.now) lefs.now) before.entry library.now
+        → IsComparisonExplained profile (map (λ t. t.now) lefs.now) before.entry after.now answer.reason answer.order answer.status answer.text.items) }
 {
-    match before.design(alloc, library) {
-        Ok(first) => design_comparison(alloc, lefs, library, &first, after),
+    match before.design_as(alloc, profile, library) {
+        Ok(first) => design_comparison(alloc, profile, lefs, library, &first, after),
         Err(fault) => unread(alloc, Side::Before, lefs.len(), library, fault),
     }
 }
@@ -71,22 +90,23 @@ fn library_comparison<'a, A: Allocator + Copy>(
 // What is answered where they denote this design under the library.
 fn design_comparison<'a, A: Allocator + Copy>(
     alloc: A,
+    profile: Profile,
     lefs: &[&'a [u8]],
     library: &Library<'_, A>,
     first: &Design<'_, A>,
     after: &[u8],
 ) -> Result<ComparisonAnswer<'a, A>, AllocError>
     requires { first.now.library ≡ library.now }
-    ensures { IfOk result (λ answer. (before : List ℕ) → DenotesJust (map (λ t. t.now) lefs.now) before library.now
-        → Denotes (design_in library.now) before first.now
-        → IsComparisonExplained (map (λ t. t.now) lefs.now) before after.now answer.reason answer.order answer.status answer.text.items) }
+    ensures { IfOk result (λ answer. (before : List ℕ) → DenotesJust profile (map (λ t. t.now) lefs.now) before library.now
+        → Denotes (design_in profile library.now) before first.now
+        → IsComparisonExplained profile (map (λ t. t.now) lefs.now) before after.now answer.reason answer.order answer.status answer.text.items) }
 {
     match text_and_units(alloc, after) {
         Ok((text, units)) => {
             if units == library.units() {
-                second_comparison(alloc, lefs.len(), library, first, text)
+                second_comparison(alloc, profile, lefs.len(), library, first, text)
             } else {
-                other_units(alloc, lefs, library, after)
+                other_units(alloc, profile, lefs, library, after)
             }
         }
         Err(fault) => {
@@ -113,17 +133,18 @@ fn text_and_units<A: Allocator + Copy>(
 // What is answered where the second DEF, after this many LEFs, is at the units of the library.
 fn second_comparison<'e, A: Allocator + Copy>(
     alloc: A,
+    profile: Profile,
     count: usize,
     library: &Library<'_, A>,
     first: &Design<'_, A>,
     after: DefText<'_, A>,
 ) -> Result<ComparisonAnswer<'e, A>, AllocError>
     requires { first.now.library ≡ library.now }
-    ensures { IfOk result (λ answer. (lefs : List (List ℕ)) (before : List ℕ) → DenotesJust lefs before library.now
-        → Denotes (design_in library.now) before first.now → DenotesJust lefs after.entry library.now
-        → IsComparisonExplained lefs before after.entry answer.reason answer.order answer.status answer.text.items) }
+    ensures { IfOk result (λ answer. (lefs : List (List ℕ)) (before : List ℕ) → DenotesJust profile lefs before library.now
+        → Denotes (design_in profile library.now) before first.now → DenotesJust profile lefs after.entry library.now
+        → IsComparisonExplained profile lefs before after.entry answer.reason answer.order answer.status answer.text.items) }
 {
-    match after.design(alloc, library) {
+    match after.design_as(alloc, profile, library) {
         Ok(second) => comparison(alloc, first, &second),
         Err(fault) => unread(alloc, Side::After, count, library, fault),
     }
@@ -136,10 +157,11 @@ fn comparison<'e, A: Allocator + Copy>(
     second: &Design<'_, A>,
 ) -> Result<ComparisonAnswer<'e, A>, AllocError>
     requires { first.now.library ≡ second.now.library }
-    ensures { IfOk result (λ answer. (lefs : List (List ℕ)) (before after : List ℕ) → DenotesJust lefs before first.now.library
-        → Denotes (design_in first.now.library) before first.now → DenotesJust lefs after first.now.library
-        → Denotes (design_in first.now.library) after second.now
-        → IsComparisonExplained lefs before after answer.reason answer.order answer.status answer.text.items) }
+    ensures { IfOk result (λ answer. (profile : Profile) (lefs : List (List ℕ)) (before after : List ℕ)
+        → DenotesJust profile lefs before first.now.library
+        → Denotes (design_in profile first.now.library) before first.now → DenotesJust profile lefs after first.now.library
+        → Denotes (design_in profile first.now.library) after second.now
+        → IsComparisonExplained profile lefs before after answer.reason answer.order answer.status answer.text.items) }
 {
     let list = differences(alloc, first, second)?;
     let verdict = verdict_of(first, &list);
@@ -179,16 +201,17 @@ fn status_of(verdict: Verdict) -> Status
 // What is answered where the second DEF is at other units than this library.
 fn other_units<'a, A: Allocator + Copy>(
     alloc: A,
+    profile: Profile,
     lefs: &[&'a [u8]],
     library: &Library<'_, A>,
     after: &[u8],
 ) -> Result<ComparisonAnswer<'a, A>, AllocError>
-    ensures { IfOk result (λ answer. (before : List ℕ) (first : DesignModel) → DenoteDesign (map (λ t. t.now) lefs.now) before library.now first
+    ensures { IfOk result (λ answer. (before : List ℕ) (first : DesignModel) → DenoteDesign profile (map (λ t. t.now) lefs.now) before library.now first
         → ((units : ℕ) → Denotes units_in after.now units → units ≢ library.now.units)
-        → IsComparisonExplained (map (λ t. t.now) lefs.now) before after.now answer.reason answer.order answer.status answer.text.items) }
+        → IsComparisonExplained profile (map (λ t. t.now) lefs.now) before after.now answer.reason answer.order answer.status answer.text.items) }
 {
-    match library_for(alloc, lefs, after) {
-        Ok((other, text)) => other_library(alloc, lefs.len(), &other, text),
+    match library_for(alloc, profile, lefs, after) {
+        Ok((other, text)) => other_library(alloc, profile, lefs.len(), &other, text),
         Err(fault) => refusal(alloc, Side::After, fault, None),
     }
 }
@@ -196,15 +219,16 @@ fn other_units<'a, A: Allocator + Copy>(
 // What is answered where the second DEF, after this many LEFs, is at the units of this library, and the first is not.
 fn other_library<'e, A: Allocator + Copy>(
     alloc: A,
+    profile: Profile,
     count: usize,
     other: &Library<'_, A>,
     after: DefText<'_, A>,
 ) -> Result<ComparisonAnswer<'e, A>, AllocError>
     ensures { IfOk result (λ answer. (lefs : List (List ℕ)) (before : List ℕ) (library : LibraryModel) (first : DesignModel)
-        → DenoteDesign lefs before library first → library.units ≢ other.now.units → DenotesJust lefs after.entry other.now
-        → IsComparisonExplained lefs before after.entry answer.reason answer.order answer.status answer.text.items) }
+        → DenoteDesign profile lefs before library first → library.units ≢ other.now.units → DenotesJust profile lefs after.entry other.now
+        → IsComparisonExplained profile lefs before after.entry answer.reason answer.order answer.status answer.text.items) }
 {
-    match after.design(alloc, other) {
+    match after.design_as(alloc, profile, other) {
         Ok(_second) => units_differ(alloc),
         Err(fault) => unread(alloc, Side::After, count, other, fault),
     }
@@ -212,8 +236,8 @@ fn other_library<'e, A: Allocator + Copy>(
 
 // The answer to designs at other units.
 fn units_differ<'e, A: Allocator + Copy>(alloc: A) -> Result<ComparisonAnswer<'e, A>, AllocError>
-    ensures { IfOk result (λ answer. (lefs : List (List ℕ)) (before after : List ℕ) → HasOtherUnits lefs before after units_text
-        → IsComparisonExplained lefs before after answer.reason answer.order answer.status answer.text.items) }
+    ensures { IfOk result (λ answer. (profile : Profile) (lefs : List (List ℕ)) (before after : List ℕ) → HasOtherUnits profile lefs before after units_text
+        → IsComparisonExplained profile lefs before after answer.reason answer.order answer.status answer.text.items) }
 {
     let text = Vec::from_slice(alloc, OTHER_UNITS)?;
     Ok(ComparisonAnswer {
@@ -232,10 +256,10 @@ fn unread<'e, A: Allocator + Copy>(
     library: &Library<'_, A>,
     fault: ReadFault,
 ) -> Result<ComparisonAnswer<'e, A>, AllocError>
-    ensures { IfOk result (λ answer. (lefs : List (List ℕ)) (before after : List ℕ)
-        → DenotesJust lefs (def_of side before after) library.now
-        → (fault.kind ≢ kinds.Memory → (said : DesignModel) → ¬ Denotes (design_in library.now) (def_of side before after) said)
-        → IsComparisonExplained lefs before after answer.reason answer.order answer.status answer.text.items) }
+    ensures { IfOk result (λ answer. (profile : Profile) (lefs : List (List ℕ)) (before after : List ℕ)
+        → DenotesJust profile lefs (def_of side before after) library.now
+        → (fault.kind ≢ kinds.Memory → (said : DesignModel) → ¬ Denotes (design_in profile library.now) (def_of side before after) said)
+        → IsComparisonExplained profile lefs before after answer.reason answer.order answer.status answer.text.items) }
 {
     let master = needed_master(alloc, library, fault.need)?;
     let fault = TextFault::Read(behind_lefs(count, fault));
@@ -249,10 +273,10 @@ fn refusal<'a, A: Allocator + Copy>(
     fault: TextFault<'a>,
     master: Option<Items<u8, A>>,
 ) -> Result<ComparisonAnswer<'a, A>, AllocError>
-    ensures { IfOk result (λ answer. (lefs : List (List ℕ)) (before after : List ℕ)
-        → Refuses (DenoteNothing lefs (def_of side before after)) ⊥ fault.entry → HasUnitsOf (def_of side before after) fault.entry
-        → IsOfMaster lefs (def_of side before after) fault.entry master
-        → IsComparisonExplained lefs before after answer.reason answer.order answer.status answer.text.items) }
+    ensures { IfOk result (λ answer. (profile : Profile) (lefs : List (List ℕ)) (before after : List ℕ)
+        → Refuses (DenoteNothing profile lefs (def_of side before after)) ⊥ fault.entry → HasUnitsOf (def_of side before after) fault.entry
+        → IsOfMaster profile lefs (def_of side before after) fault.entry master
+        → IsComparisonExplained profile lefs before after answer.reason answer.order answer.status answer.text.items) }
 {
     match fault {
         TextFault::Read(fault) => not_read(alloc, side, fault, master),
@@ -271,10 +295,10 @@ fn not_read<'e, A: Allocator + Copy>(
     fault: ReadFault,
     master: Option<Items<u8, A>>,
 ) -> Result<ComparisonAnswer<'e, A>, AllocError>
-    ensures { IfOk result (λ answer. (lefs : List (List ℕ)) (before after : List ℕ)
-        → Refuses (DenoteNothing lefs (def_of side before after)) ⊥ (Read fault)
-        → IsOfMaster lefs (def_of side before after) (Read fault) master
-        → IsComparisonExplained lefs before after answer.reason answer.order answer.status answer.text.items) }
+    ensures { IfOk result (λ answer. (profile : Profile) (lefs : List (List ℕ)) (before after : List ℕ)
+        → Refuses (DenoteNothing profile lefs (def_of side before after)) ⊥ (Read fault)
+        → IsOfMaster profile lefs (def_of side before after) (Read fault) master
+        → IsComparisonExplained profile lefs before after answer.reason answer.order answer.status answer.text.items) }
 {
     if fault.kind == FaultKind::Memory {
         return Err(AllocError);

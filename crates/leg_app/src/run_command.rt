@@ -5,13 +5,15 @@ ghost use Rattle.std.specs.Io.KnownBytes.{Appends};
 ghost use Rattle.leg_app.specs.declared.status.Status.TheVariants.{Success, Memory};
 ghost use Rattle.leg_app.specs.Answer.{IsAnswer, IsStreamAnswer, TakesAnswer, TakesFront, TakesPart};
 ghost use Rattle.leg_output.specs.Commands.Check.{memory_text};
+ghost use Rattle.leg_grammar.specs.declared.profile.Profile.TheVariants.{Narrow};
 ghost use Rattle.leg_app.specs.Reason.{IsExplained, IsStreamExplained};
 
-use crate::answer::answer_to;
+use crate::answer::answer_to_as;
 use crate::status::Status;
 use leg_app_input::{Command, split_stream};
 use leg_app_reason::Reason;
 use leg_finish::Progress;
+use leg_grammar::Profile;
 use std::alloc::Allocator;
 use std::io::Write;
 use thiserror::Error;
@@ -27,9 +29,27 @@ pub enum RunFault {
     Write,
 }
 
-/// Writes what the command answers to the texts of the LEFs, in order, and of the DEF, and returns how it
-/// ended. The answer's text is made whole before its first byte is written, and nothing is flushed. After
-/// a fault the writer has taken a proper prefix of it.
+/// Writes what the command answers to the texts of the LEFs, in order, and of the DEF, read in a profile, and returns how it ended. The
+/// answer's text is made whole before its first byte is written, and nothing is flushed. After a fault the writer has taken a proper prefix
+/// of it.
+pub fn run_as<W: Write, A: Allocator + Copy>(
+    alloc: A,
+    command: Command,
+    profile: Profile,
+    lefs: &[&[u8]],
+    def: &[u8],
+    out: &mut W,
+) -> Result<Status, RunFault>
+    ensures whole { IfOk result (λ status. TakesAnswer (IsAnswer command profile (map (λ t. t.now) lefs.now) def.now) status
+        (W.contents out.old) (W.contents out.new)) }
+    ensures cut { OnErr result (TakesPart (IsAnswer command profile (map (λ t. t.now) lefs.now) def.now)
+        (W.contents out.old) (W.contents out.new)) }
+{
+    let ended = run_explained_as(alloc, command, profile, lefs, def, out, &mut ())?;
+    Ok(ended.status)
+}
+
+/// The same of texts that are read in the narrow profile: `run_as` of `Profile::Narrow`.
 pub fn run<W: Write, A: Allocator + Copy>(
     alloc: A,
     command: Command,
@@ -37,12 +57,12 @@ pub fn run<W: Write, A: Allocator + Copy>(
     def: &[u8],
     out: &mut W,
 ) -> Result<Status, RunFault>
-    ensures whole { IfOk result (λ status. TakesAnswer (IsAnswer command (map (λ t. t.now) lefs.now) def.now) status
+    ensures whole { IfOk result (λ status. TakesAnswer (IsAnswer command Narrow (map (λ t. t.now) lefs.now) def.now) status
         (W.contents out.old) (W.contents out.new)) }
-    ensures cut { OnErr result (TakesPart (IsAnswer command (map (λ t. t.now) lefs.now) def.now)
+    ensures cut { OnErr result (TakesPart (IsAnswer command Narrow (map (λ t. t.now) lefs.now) def.now)
         (W.contents out.old) (W.contents out.new)) }
 {
-    run_with_progress(alloc, command, lefs, def, out, &mut ())
+    run_as(alloc, command, Profile::Narrow, lefs, def, out)
 }
 
 /// Writes what `run` writes, and tells the progress of each round of `finish`, before anything is written.
@@ -54,9 +74,9 @@ pub fn run_with_progress<W: Write, A: Allocator + Copy, P: Progress>(
     out: &mut W,
     progress: &mut P,
 ) -> Result<Status, RunFault>
-    ensures whole { IfOk result (λ status. TakesAnswer (IsAnswer command (map (λ t. t.now) lefs.now) def.now) status
+    ensures whole { IfOk result (λ status. TakesAnswer (IsAnswer command Narrow (map (λ t. t.now) lefs.now) def.now) status
         (W.contents out.old) (W.contents out.new)) }
-    ensures cut { OnErr result (TakesPart (IsAnswer command (map (λ t. t.now) lefs.now) def.now)
+    ensures cut { OnErr result (TakesPart (IsAnswer command Narrow (map (λ t. t.now) lefs.now) def.now)
         (W.contents out.old) (W.contents out.new)) }
 {
     let ended = run_explained(alloc, command, lefs, def, out, progress)?;
@@ -72,22 +92,23 @@ pub struct Ended<'a, A: Allocator> {
     pub reason: Option<Reason<'a, A>>,
 }
 
-/// Writes what `run` writes, and returns with the status the reason where no design, list or length is written. The progress is told of
+/// Writes what `run_as` writes, and returns with the status the reason where no design, list or length is written. The progress is told of
 /// each round of `finish`, before anything is written.
-pub fn run_explained<'a, W: Write, A: Allocator + Copy, P: Progress>(
+pub fn run_explained_as<'a, W: Write, A: Allocator + Copy, P: Progress>(
     alloc: A,
     command: Command,
+    profile: Profile,
     lefs: &[&'a [u8]],
     def: &[u8],
     out: &mut W,
     progress: &mut P,
 ) -> Result<Ended<'a, A>, RunFault>
-    ensures whole { IfOk result (λ ended. TakesAnswer (IsExplained command (map (λ t. t.now) lefs.now) def.now ended.reason) ended.status
+    ensures whole { IfOk result (λ ended. TakesAnswer (IsExplained command profile (map (λ t. t.now) lefs.now) def.now ended.reason) ended.status
         (W.contents out.old) (W.contents out.new)) }
-    ensures cut { OnErr result (TakesPart (IsAnswer command (map (λ t. t.now) lefs.now) def.now)
+    ensures cut { OnErr result (TakesPart (IsAnswer command profile (map (λ t. t.now) lefs.now) def.now)
         (W.contents out.old) (W.contents out.new)) }
 {
-    match answer_to(alloc, command, lefs, def, progress) {
+    match answer_to_as(alloc, command, profile, lefs, def, progress) {
         Ok(answer) => {
             write_text(out, &answer.text)?;
             Ok(Ended {
@@ -103,6 +124,23 @@ pub fn run_explained<'a, W: Write, A: Allocator + Copy, P: Progress>(
             })
         }
     }
+}
+
+/// The same of texts that are read in the narrow profile: `run_explained_as` of `Profile::Narrow`.
+pub fn run_explained<'a, W: Write, A: Allocator + Copy, P: Progress>(
+    alloc: A,
+    command: Command,
+    lefs: &[&'a [u8]],
+    def: &[u8],
+    out: &mut W,
+    progress: &mut P,
+) -> Result<Ended<'a, A>, RunFault>
+    ensures whole { IfOk result (λ ended. TakesAnswer (IsExplained command Narrow (map (λ t. t.now) lefs.now) def.now ended.reason) ended.status
+        (W.contents out.old) (W.contents out.new)) }
+    ensures cut { OnErr result (TakesPart (IsAnswer command Narrow (map (λ t. t.now) lefs.now) def.now)
+        (W.contents out.old) (W.contents out.new)) }
+{
+    run_explained_as(alloc, command, Profile::Narrow, lefs, def, out, progress)
 }
 
 /// Checks the block of a stream, which has one LEF up to its `END LIBRARY` and after it one DEF, and writes the answer as

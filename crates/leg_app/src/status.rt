@@ -6,7 +6,7 @@ ghost use Rattle.leg_app.specs.Answer.{exit_code};
 /// How a command ended; its number is the program's exit status.
 #[derive(Clone, Copy, PartialEq, Eq, Debug)]
 pub enum Status {
-    /// The design is legal, its wirelength was printed, or it was legalised, routed or finished.
+    /// The design is legal, its wirelength was printed, or it was legalised, routed, finished or printed.
     Success = 0,
     /// Violations were listed.
     Violations = 1,

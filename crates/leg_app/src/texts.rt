@@ -8,8 +8,9 @@ ghost use Rattle.leg_app.specs.Refusal.{Refuses, HasUnitsOf};
 
 use crate::text_fault::TextFault;
 use leg_design::DefText;
+use leg_grammar::Profile;
 use leg_lex::ReadFault;
-use leg_lib::{file_number, read_lefs};
+use leg_lib::{file_number, read_lefs_as};
 use leg_lib_records::Library;
 use std::alloc::Allocator;
 
@@ -24,21 +25,22 @@ pub(crate) fn behind_lefs(lefs: usize, fault: ReadFault) -> ReadFault
     }
 }
 
-/// The library that the LEFs denote, at the DEF's own units, and the DEF with its words.
+/// The library that the LEFs denote in a profile, at the DEF's own units, and the DEF with its words.
 pub(crate) fn library_for<'a, 'd, A: Allocator + Copy>(
     alloc: A,
+    profile: Profile,
     lefs: &[&'a [u8]],
     def: &'d [u8],
 ) -> Result<(Library<'a, A>, DefText<'d, A>), TextFault<'a>>
-    ensures found { IfOk result (λ both. DenoteLibraryFor (map (λ t. t.now) lefs.now) def.now both.0) }
+    ensures found { IfOk result (λ both. DenoteLibraryFor profile (map (λ t. t.now) lefs.now) def.now both.0) }
     // The texts denote no other library.
     ensures only { IfOk result (λ both. (said : LibraryModel)
-        → DenoteLibraryFor (map (λ t. t.now) lefs.now) def.now said → said ≡ both.0) }
+        → DenoteLibraryFor profile (map (λ t. t.now) lefs.now) def.now said → said ≡ both.0) }
     ensures text { IfOk result (λ both. both.1 ≡ def.now) }
-    ensures none { IfErr result (λ fault. Refuses (DenoteNoLibrary (map (λ t. t.now) lefs.now) def.now) ⊥ fault) }
+    ensures none { IfErr result (λ fault. Refuses (DenoteNoLibrary profile (map (λ t. t.now) lefs.now) def.now) ⊥ fault) }
     ensures units { IfErr result (λ fault. HasUnitsOf def.now fault) }
 {
-    let raw = read_lefs(alloc, lefs)?;
+    let raw = read_lefs_as(alloc, profile, lefs)?;
     let text = match DefText::new(alloc, def) {
         Ok(text) => text,
         Err(fault) => return Err(TextFault::Read(behind_lefs(lefs.len(), fault))),

@@ -17,4 +17,6 @@ pub enum Command {
     Flow,
     /// The block with wires added to its open nets, laid anew until all of them pass one another.
     Finish,
+    /// The block as it is, in lefdef's own form.
+    Print,
 }

@@ -4,6 +4,7 @@
 mod command;
 mod input;
 mod line;
+mod options;
 mod stream;
 
 pub use command::Command;

@@ -1,9 +1,11 @@
 //! The words of a command line.
 
 ghost use Rattle.std.specs.Prelude.{◌≡◌, ◌↔◌, IsTrue, map, option_map, string_bytes, IfSome, IfNone};
-ghost use Rattle.leg_app_input.specs.Line.{command_named, compare_line_of, line_of, IsHelpWord, IsVersionWord, Asks, AsksNothing};
+ghost use Rattle.leg_app_input.specs.Line.{command_named, compare_line_of, line_of, names_command, behind_options, wrong_behind, wrong_option, IsHelpWord, IsVersionWord, Asks, AsksNothing};
 
 use crate::command::Command;
+use crate::options::{after_options, names_option, profile_of};
+use leg_grammar::Profile;
 use std::alloc::Allocator;
 
 /// What the words of a command line ask.
@@ -19,11 +21,15 @@ pub enum Asked<'a, A: Allocator> {
     Compare(CompareLine<'a, A>),
     /// A command on files.
     Files(Line<'a, A>),
+    /// Nothing: at this word an option is wrong, or what stands behind the options.
+    WrongOption(&'a str),
 }
 
 /// A comparison of two DEFs.
 #[derive(Drop)]
 pub struct CompareLine<'a, A: Allocator> {
+    /// The profile in which the texts are read.
+    pub profile: Profile,
     /// The word that names the first DEF.
     pub before: &'a str,
     /// The word that names the second DEF.
@@ -37,6 +43,8 @@ pub struct CompareLine<'a, A: Allocator> {
 pub struct Line<'a, A: Allocator> {
     /// The command.
     pub command: Command,
+    /// The profile in which the texts are read.
+    pub profile: Profile,
     /// The word that names the DEF.
     pub def: &'a str,
     /// The words that name the LEFs, in order: one at least.
@@ -44,8 +52,8 @@ pub struct Line<'a, A: Allocator> {
 }
 
 /// What the words after the program's name ask: standard input where there are none, help where the one word is `--help` or `-h`, the
-/// version where it is `--version` or `-V`, and else what `compare_line_of` or `line_of` returns. None where they ask for nothing. It takes
-/// no memory.
+/// version where it is `--version` or `-V`, and else what `compare_line_of` or `line_of` returns of the words behind the options. None
+/// where they ask for nothing and no option is wrong. It takes no memory.
 pub fn asked_by<A: Allocator>(words: &[String<A>]) -> Option<Asked<'_, A>>
     ensures found { IfSome result (λ asked. Asks (map string_bytes words.now) asked) }
     ensures none { IfNone result (AsksNothing (map string_bytes words.now)) }
@@ -54,11 +62,47 @@ pub fn asked_by<A: Allocator>(words: &[String<A>]) -> Option<Asked<'_, A>>
         [] => Some(Asked::Stream),
         [word] if is_help_word(word.as_str()) => Some(Asked::Help),
         [word] if is_version_word(word.as_str()) => Some(Asked::Version),
-        _ => match compare_line_of(words) {
-            Some(line) => Some(Asked::Compare(line)),
-            None => Some(Asked::Files(line_of(words)?)),
-        },
+        _ => asked_behind_options(words),
     }
+}
+
+/// What these words ask behind their options.
+fn asked_behind_options<A: Allocator>(words: &[String<A>]) -> Option<Asked<'_, A>>
+    ensures found { IfSome result (λ asked. Asks (map string_bytes words.now) asked) }
+    ensures no_comparison { IfNone result (behind_options compare_line_of (map string_bytes words.now) ≡ None) }
+    ensures no_line { IfNone result (behind_options line_of (map string_bytes words.now) ≡ None) }
+    ensures no_option { IfNone result (wrong_option (map string_bytes words.now) ≡ None) }
+{
+    let (options, line) = after_options(words);
+    let Some(profile) = profile_of(options) else {
+        return Some(Asked::WrongOption(words.first()?.as_str()));
+    };
+    if let Some(line) = compare_line_of(profile, line) {
+        return Some(Asked::Compare(line));
+    }
+    if let Some(line) = line_of(profile, line) {
+        return Some(Asked::Files(line));
+    }
+    Some(Asked::WrongOption(wrong_behind(options.wide, line)?))
+}
+
+/// The first of these words, where it is wrong behind options.
+fn wrong_behind<A: Allocator>(wide: bool, words: &[String<A>]) -> Option<&str>
+    ensures { option_map (λ word. word.now) result ≡ wrong_behind wide (map string_bytes words.now) }
+{
+    let word = words.first()?.as_str();
+    if (names_option(word) || wide) && !names_command(word) {
+        Some(word)
+    } else {
+        None
+    }
+}
+
+/// Whether the word names a command.
+fn names_command(word: &str) -> bool
+    ensures { result ≡ names_command word.now }
+{
+    command_named(word).is_some() || word == "compare"
 }
 
 /// Whether the word asks for help.
@@ -75,11 +119,15 @@ fn is_version_word(word: &str) -> bool
     word == "--version" || word == "-V"
 }
 
-/// What the words after the program's name ask: `compare`, two DEFs, and one LEF or more. None where the words are others.
+/// What the words behind the options ask: `compare`, two DEFs, and one LEF or more, read in this profile. None where the words are others.
 /// It takes no memory.
-pub fn compare_line_of<A: Allocator>(words: &[String<A>]) -> Option<CompareLine<'_, A>>
-    ensures { option_map (λ line. (line.before.now, line.after.now, map string_bytes line.lefs.now)) result
+pub fn compare_line_of<A: Allocator>(
+    profile: Profile,
+    words: &[String<A>],
+) -> Option<CompareLine<'_, A>>
+    ensures is { option_map (λ line. (line.before.now, line.after.now, map string_bytes line.lefs.now)) result
         ≡ compare_line_of (map string_bytes words.now) }
+    ensures profile { IfSome result (λ line. line.profile ≡ profile) }
 {
     let [name, before, after, lefs @ ..] = words else {
         return None;
@@ -90,17 +138,19 @@ pub fn compare_line_of<A: Allocator>(words: &[String<A>]) -> Option<CompareLine<
     let before = before.as_str();
     let after = after.as_str();
     Some(CompareLine {
+        profile,
         before,
         after,
         lefs,
     })
 }
 
-/// What the words after the program's name ask: a command's exact name, a DEF, and one LEF or more.
-/// None where the words are others. It takes no memory.
-pub fn line_of<A: Allocator>(words: &[String<A>]) -> Option<Line<'_, A>>
-    ensures { option_map (λ line. (line.command, line.def.now, map string_bytes line.lefs.now)) result
+/// What the words behind the options ask: a command's exact name, a DEF, and one LEF or more, read in this profile. None where the words are
+/// others. It takes no memory.
+pub fn line_of<A: Allocator>(profile: Profile, words: &[String<A>]) -> Option<Line<'_, A>>
+    ensures is { option_map (λ line. (line.command, line.def.now, map string_bytes line.lefs.now)) result
         ≡ line_of (map string_bytes words.now) }
+    ensures profile { IfSome result (λ line. line.profile ≡ profile) }
 {
     let [name, def, lefs @ ..] = words else {
         return None;
@@ -110,7 +160,12 @@ pub fn line_of<A: Allocator>(words: &[String<A>]) -> Option<Line<'_, A>>
     }
     let command = command_named(name.as_str())?;
     let def = def.as_str();
-    Some(Line { command, def, lefs })
+    Some(Line {
+        command,
+        profile,
+        def,
+        lefs,
+    })
 }
 
 fn command_named(name: &str) -> Option<Command>
@@ -130,6 +185,8 @@ fn command_named(name: &str) -> Option<Command>
         Some(Command::Flow)
     } else if name == "finish" {
         Some(Command::Finish)
+    } else if name == "print" {
+        Some(Command::Print)
     } else {
         None
     }

@@ -13,6 +13,7 @@ use Rattle.leg_rules.specs.Compare.Verdicts.{IsMove, IsGrowth, HasSoMany, IsVerd
 use Rattle.leg_compare.proofs.Counts.{OfAKind, not_both}
 use Rattle.leg_app.specs.declared.status.Status.{Status}
 use Rattle.leg_app.specs.declared.status.Status.TheVariants.{Success, Violations, Refused, Unsolved, Memory}
+use Rattle.leg_grammar.specs.declared.profile.Profile.{Profile}
 use Rattle.leg_grammar.specs.Texts.{DenoteDesign}
 use Rattle.leg_app.specs.Comparison.{Compares}
 use Rattle.leg_app_laws.specs.Lines.{IsOfPlaces, IsOfWires, IsOfPlacesAndWires, ComparesAs, AnswersAs, AnswersPlaces, AnswersWires, AnswersPlacesAndWires}
@@ -57,30 +58,31 @@ module _ (first : DesignModel) where
 
 -- texts say one design at most
 abbrev pub SayOneDesign : Type 0
-SayOneDesign = (lefs : List (List ℕ)) (def : List ℕ) (library other : LibraryModel) (a b : DesignModel)
-    → DenoteDesign lefs def library a → DenoteDesign lefs def other b → (library ≡ other) × (a ≡ b)
+SayOneDesign = (profile : Profile) (lefs : List (List ℕ)) (def : List ℕ) (library other : LibraryModel) (a b : DesignModel)
+    → DenoteDesign profile lefs def library a → DenoteDesign profile lefs def other b → (library ≡ other) × (a ≡ b)
 
-module _ (one : SayOneDesign) (lefs : List (List ℕ)) (before after : List ℕ) (library : LibraryModel) (first second : DesignModel)
-    (say_first : DenoteDesign lefs before library first) (say_second : DenoteDesign lefs after library second) where
+module _ (one : SayOneDesign) (profile : Profile) (lefs : List (List ℕ)) (before after : List ℕ) (library : LibraryModel) (first second : DesignModel)
+    (say_first : DenoteDesign profile lefs before library first) (say_second : DenoteDesign profile lefs after library second) where
   -- each difference is such a one, and where each of a list is, the verdict on it is such a one
   module _ (IsOne : DesignModel → Difference → Type 0) (IsLast : Verdict → Type 0) (only : (d : Difference) → IsDifference first second d → IsOne first d)
       (suits : (list : List Difference) (v : Verdict) → All (IsOne first) list → IsVerdict first list v → IsLast v) where
-    of_compared : (status : Status) (text : List ℕ) → Compares lefs before after status text → ComparesAs IsOne IsLast lefs before after status text
+    of_compared : (status : Status) (text : List ℕ) → Compares profile lefs before after status text
+        → ComparesAs IsOne IsLast profile lefs before after status text
     of_compared status text c =
-        let firsts : c.first ≡ first = (one lefs before c.library library c.first first c.say_first say_first).1 in
-        let seconds : c.second ≡ second = (one lefs after c.library library c.second second c.say_second say_second).1 in
+        let firsts : c.first ≡ first = (one profile lefs before c.library library c.first first c.say_first say_first).1 in
+        let seconds : c.second ≡ second = (one profile lefs after c.library library c.second second c.say_second say_second).1 in
         let all : AreAllDifferences first second c.list =
         subst (λ d. AreAllDifferences first d c.list) seconds (subst (λ d. AreAllDifferences d c.second c.list) firsts c.all) in
         let judged : IsVerdict first c.list c.verdict = subst (λ d. IsVerdict d c.list c.verdict) firsts c.judged in
         let each : All (IsOne first) c.list = All-weaker (IsDifference first second) (IsOne first) only c.list all.each in
         record { compares = c; each = subst (λ d. All (IsOne d) c.list) (sym firsts) each; last = suits c.list c.verdict each judged }
 
-    answers_as : AnswersAs IsOne IsLast lefs before after
+    answers_as : AnswersAs IsOne IsLast profile lefs before after
     answers_as Success text c kept = of_compared Success text c
     answers_as Violations text (inl c) kept = of_compared Violations text c
     answers_as Violations text (inr u) kept =
-        let here : u.library ≡ library = (one lefs before u.library library u.first first u.say_first say_first).0 in
-        let there : u.other ≡ library = (one lefs after u.other library u.second second u.say_second say_second).0 in
+        let here : u.library ≡ library = (one profile lefs before u.library library u.first first u.say_first say_first).0 in
+        let there : u.other ≡ library = (one profile lefs after u.other library u.second second u.say_second say_second).0 in
         absurd (u.apart (ap (λ l. l.units) (here ∙ sym there)))
     answers_as Refused text told kept = elim told.nothing [
       | inl nothing ↦ absurd (nothing library first say_first)
@@ -89,11 +91,11 @@ module _ (one : SayOneDesign) (lefs : List (List ℕ)) (before after : List ℕ)
     answers_as Unsolved text none kept = absurd none
     answers_as Memory text is kept = absurd (kept refl)
 
-  pub places_answered : ((d : Difference) → IsDifference first second d → IsMove first d) → AnswersPlaces lefs before after
+  pub places_answered : ((d : Difference) → IsDifference first second d → IsMove first d) → AnswersPlaces profile lefs before after
   places_answered only = answers_as IsMove IsOfPlaces only (of_places first)
 
-  pub wires_answered : ((d : Difference) → IsDifference first second d → IsGrowth d) → AnswersWires lefs before after
+  pub wires_answered : ((d : Difference) → IsDifference first second d → IsGrowth d) → AnswersWires profile lefs before after
   wires_answered only = answers_as (λ f d. IsGrowth d) IsOfWires only (of_wires first)
 
-  pub both_answered : ((d : Difference) → IsDifference first second d → IsMove first d ⊎ IsGrowth d) → AnswersPlacesAndWires lefs before after
+  pub both_answered : ((d : Difference) → IsDifference first second d → IsMove first d ⊎ IsGrowth d) → AnswersPlacesAndWires profile lefs before after
   both_answered only = answers_as (λ f d. IsMove f d ⊎ IsGrowth d) IsOfPlacesAndWires only (of_both first)

@@ -14,14 +14,18 @@ use Rattle.leg_app_input.specs.declared.command.Command.{Command}
 use Rattle.leg_app_input.specs.declared.command.Command.TheVariants.{PlaceCheck, Check, Route, Flow, Finish}
 use Rattle.leg_app.specs.declared.status.Status.{Status}
 use Rattle.leg_app.specs.declared.status.Status.TheVariants.{Success, Refused, Memory}
+use Rattle.leg_grammar.specs.declared.profile.Profile.TheVariants.{Narrow}
+use Rattle.leg_grammar.specs.declared.profile.Profile.{Profile}
 use Rattle.leg_grammar.specs.Texts.{DenoteDesign}
 use Rattle.leg_output.specs.Commands.Check.{legal_text}
 use Rattle.leg_app.specs.LegaliseResult.{Legalises, PrintsLegalised}
 use Rattle.leg_app.specs.RouteResult.{Routes, PrintsRouted}
 use Rattle.leg_app.specs.FlowResult.{PrintsFlow}
+use Rattle.leg_app.specs.PrintResult.{PrintsDesign}
 use Rattle.leg_app.specs.FinishResult.{Finishes, PrintsFinished}
 use Rattle.leg_app.specs.Answer.{IsAnswer}
 use Rattle.leg_app_laws.specs.Legal.{AnswersLegal}
+use Rattle.leg_app_laws.proofs.PrintedDifferences.{said_under}
 use Rattle.leg_app_laws.proofs.RoundTrips.{SaysItsDesign, SaysItsUnits, said_again, said_with_moves, said_with_wires}
 
 -- where nothing holds, the list has nothing
@@ -34,22 +38,23 @@ none_listed Holds none = record {
 
 -- a command that doesn't route has one answer to texts that it judges
 abbrev pub HasOneAnswer : Type 0
-HasOneAnswer = (command : Command) (lefs : List (List ℕ)) (def : List ℕ) (status other : Status) (text words : List ℕ)
-    → IsAnswer command lefs def status text → IsAnswer command lefs def other words
+HasOneAnswer = (command : Command) (profile : Profile) (lefs : List (List ℕ)) (def : List ℕ) (status other : Status) (text words : List ℕ)
+    → IsAnswer command profile lefs def status text → IsAnswer command profile lefs def other words
     → command ≢ Route → command ≢ Flow → command ≢ Finish → status ≢ Refused → status ≢ Memory → other ≢ Memory → (status ≡ other) × (text ≡ words)
 
-module _ (one_answer : HasOneAnswer) (lefs : List (List ℕ)) (text : List ℕ) where
-  no_other : (command : Command) → command ≢ Route → command ≢ Flow → command ≢ Finish → IsAnswer command lefs text Success legal_text
-      → AnswersLegal command lefs text
+module _ (one_answer : HasOneAnswer) (profile : Profile) (lefs : List (List ℕ)) (text : List ℕ) where
+  no_other : (command : Command) → command ≢ Route → command ≢ Flow → command ≢ Finish → IsAnswer command profile lefs text Success legal_text
+      → AnswersLegal command profile lefs text
   no_other command first second third legal = record {
     legal = legal;
     only = λ status answer is not_memory.
-        let same = one_answer command lefs text Success status legal_text answer legal is first second third (λ e. cc) (λ e. cc) not_memory in
+        let same = one_answer command profile lefs text Success status legal_text answer legal is first second third (λ e. cc) (λ e. cc) not_memory in
         (sym same.0, sym same.1);
   }
 
   -- texts that denote a legally placed design
-  placed_answered : (design : DesignModel) → DenoteDesign lefs text design.library design → IsLegallyPlaced design → AnswersLegal PlaceCheck lefs text
+  placed_answered : (design : DesignModel) → DenoteDesign profile lefs text design.library design → IsLegallyPlaced design
+      → AnswersLegal PlaceCheck profile lefs text
   placed_answered design say placed =
       no_other PlaceCheck (λ e. cc) (λ e. cc) (λ e. cc)
       (inl (record {
@@ -65,7 +70,7 @@ module _ (one_answer : HasOneAnswer) (lefs : List (List ℕ)) (text : List ℕ) 
       }))
 
   -- texts that denote a legal design within the limit of shapes
-  legal_answered : (design : DesignModel) → DenoteDesign lefs text design.library design → IsLegal design → AnswersLegal Check lefs text
+  legal_answered : (design : DesignModel) → DenoteDesign profile lefs text design.library design → IsLegal design → AnswersLegal Check profile lefs text
   legal_answered design say legal =
       no_other Check (λ e. cc) (λ e. cc) (λ e. cc)
       (inl (record {
@@ -91,16 +96,16 @@ finished_library before after finishes = ap (λ d. d.library) finishes.same.rest
 
 -- What `route`, `legalise`, `flow` and `finish` print.
 module _ (says_design : SaysItsDesign) (says_units : SaysItsUnits) (lefs : List (List ℕ)) (def text : List ℕ) (library : LibraryModel) (design : DesignModel)
-    (say : DenoteDesign lefs def library design) where
+    (say : DenoteDesign Narrow lefs def library design) where
   pub routed_said : (printed : PrintsRouted design text) → StayOne (printed_names printed.routed) → length text ≤ TEXT_LIMIT
-      → DenoteDesign lefs text printed.routed.library printed.routed
+      → DenoteDesign Narrow lefs text printed.routed.library printed.routed
   routed_said printed one fits =
       let routes = printed.routes in
       said_again says_design says_units lefs def text library design printed.routed say
       (routed_library design printed.routed routes) routes.sound routes.proper one printed.is fits
 
   pub legalised_said : (printed : PrintsLegalised design text) → StayOne (printed_names printed.legalised) → length text ≤ TEXT_LIMIT
-      → DenoteDesign lefs text printed.legalised.library printed.legalised
+      → DenoteDesign Narrow lefs text printed.legalised.library printed.legalised
   legalised_said printed one fits =
       let legalises = printed.legalises in
       said_with_moves says_design says_units lefs def text library design printed.legalised say
@@ -108,7 +113,7 @@ module _ (says_design : SaysItsDesign) (says_units : SaysItsUnits) (lefs : List 
       printed.distances printed.total printed.greatest printed.is fits
 
   pub flow_said : (printed : PrintsFlow design text) → StayOne (printed_names printed.routed) → length text ≤ TEXT_LIMIT
-      → DenoteDesign lefs text printed.routed.library printed.routed
+      → DenoteDesign Narrow lefs text printed.routed.library printed.routed
   flow_said printed one fits =
       let routes = printed.routes in
       let same = routed_library printed.legalised printed.routed routes ∙ legalised_library design printed.legalised printed.legalises in
@@ -116,28 +121,35 @@ module _ (says_design : SaysItsDesign) (says_units : SaysItsUnits) (lefs : List 
       printed.distances printed.total printed.greatest printed.is fits
 
   pub finished_said : (printed : PrintsFinished design text) → StayOne (printed_names printed.finished) → length text ≤ TEXT_LIMIT
-      → DenoteDesign lefs text printed.finished.library printed.finished
+      → DenoteDesign Narrow lefs text printed.finished.library printed.finished
   finished_said printed one fits =
       let finishes = printed.finishes in
       said_with_wires says_design says_units lefs def text library design printed.finished say
       (finished_library design printed.finished finishes) finishes.sound finishes.proper one
       printed.length printed.vias printed.is fits
 
+  pub design_said : PrintsDesign design text → StayOne (printed_names design) → length text ≤ TEXT_LIMIT → DenoteDesign Narrow lefs text library design
+  design_said printed one fits =
+      said_under Narrow lefs def library design say text design refl
+      (said_again says_design says_units lefs def text library design design say refl printed.sound printed.proper one printed.is fits)
+
   module _ (one_answer : HasOneAnswer) where
-    pub routed_legal : (printed : PrintsRouted design text) → StayOne (printed_names printed.routed) → length text ≤ TEXT_LIMIT → AnswersLegal Check lefs text
+    pub routed_legal : (printed : PrintsRouted design text) → StayOne (printed_names printed.routed) → length text ≤ TEXT_LIMIT
+        → AnswersLegal Check Narrow lefs text
     routed_legal printed one fits =
         let routes = printed.routes in
-        legal_answered one_answer lefs text printed.routed (routed_said printed one fits) routes.legal
+        legal_answered one_answer Narrow lefs text printed.routed (routed_said printed one fits) routes.legal
 
     pub legalised_placed : (printed : PrintsLegalised design text) → StayOne (printed_names printed.legalised) → length text ≤ TEXT_LIMIT
-        → AnswersLegal PlaceCheck lefs text
-    legalised_placed printed one fits = placed_answered one_answer lefs text printed.legalised (legalised_said printed one fits) printed.legalises.legal
+        → AnswersLegal PlaceCheck Narrow lefs text
+    legalised_placed printed one fits = placed_answered one_answer Narrow lefs text printed.legalised (legalised_said printed one fits) printed.legalises.legal
 
-    pub flow_legal : (printed : PrintsFlow design text) → StayOne (printed_names printed.routed) → length text ≤ TEXT_LIMIT → AnswersLegal Check lefs text
+    pub flow_legal : (printed : PrintsFlow design text) → StayOne (printed_names printed.routed) → length text ≤ TEXT_LIMIT
+        → AnswersLegal Check Narrow lefs text
     flow_legal printed one fits =
         let routes = printed.routes in
-        legal_answered one_answer lefs text printed.routed (flow_said printed one fits) routes.legal
+        legal_answered one_answer Narrow lefs text printed.routed (flow_said printed one fits) routes.legal
 
     pub finished_legal : (printed : PrintsFinished design text) → StayOne (printed_names printed.finished) → length text ≤ TEXT_LIMIT
-        → AnswersLegal Check lefs text
-    finished_legal printed one fits = legal_answered one_answer lefs text printed.finished (finished_said printed one fits) printed.finishes.legal
+        → AnswersLegal Check Narrow lefs text
+    finished_legal printed one fits = legal_answered one_answer Narrow lefs text printed.finished (finished_said printed one fits) printed.finishes.legal

@@ -5,16 +5,18 @@ use Rattle.leg_lib_records.specs.Records.{LibraryModel}
 use Rattle.leg_design_records.specs.Records.{DesignModel}
 use Rattle.leg_design_records.specs.WellFormed.{IsWellFormed}
 use Rattle.leg_design.proofs.ReadDesigns.{reads_well_formed}
+use Rattle.leg_grammar.specs.declared.profile.Profile.{Profile}
 use Rattle.leg_grammar.specs.Texts.{DenoteDesign}
 use Rattle.leg_app.proofs.Denotations.{design_has_library}
 
-module _ (lefs : List (List ℕ)) (def : List ℕ) (library : LibraryModel) (design : DesignModel) (say : DenoteDesign lefs def library design) where
+module _ (profile : Profile) (lefs : List (List ℕ)) (def : List ℕ) (library : LibraryModel) (design : DesignModel)
+    (say : DenoteDesign profile lefs def library design) where
   -- the design that a text denotes is well-formed
   pub said_well_formed : IsWellFormed design
-  said_well_formed = reads_well_formed library (texts say.said.words) design say.said.reads
+  said_well_formed = reads_well_formed profile library (texts say.said.words) design say.said.reads
 
   -- a text that denotes a design of the same library denotes it under that library
-  pub said_under : (text : List ℕ) (after : DesignModel) → after.library ≡ design.library → DenoteDesign lefs text after.library after
-      → DenoteDesign lefs text library after
+  pub said_under : (text : List ℕ) (after : DesignModel) → after.library ≡ design.library → DenoteDesign profile lefs text after.library after
+      → DenoteDesign profile lefs text library after
   said_under text after same again =
-      subst (λ l. DenoteDesign lefs text l after) (same ∙ (design_has_library library (texts say.said.words)).given design say.said.reads) again
+      subst (λ l. DenoteDesign profile lefs text l after) (same ∙ (design_has_library profile library (texts say.said.words)).given design say.said.reads) again

@@ -7,6 +7,7 @@ use Rattle.leg_rules.specs.declared.difference.Verdict.TheVariants.{Same, Places
 use Rattle.leg_rules.specs.Compare.Verdicts.{IsMove, IsGrowth}
 use Rattle.leg_app.specs.declared.status.Status.{Status}
 use Rattle.leg_app.specs.declared.status.Status.TheVariants.{Memory}
+use Rattle.leg_grammar.specs.declared.profile.Profile.{Profile}
 use Rattle.leg_app.specs.Comparison.{Compares, IsComparison}
 
 -- nothing differs, or places of movable components alone do: `same` or `places N`
@@ -35,25 +36,27 @@ IsOfPlacesAndWires (Differs count) = ⊥
 
 -- All that differs between the DEFs is printed, a line for each difference and a last one. Each difference is such a one, counted from the
 -- first design, and the verdict of the last line is such a one.
-pub record ComparesAs (IsOne : DesignModel → Difference → Type 0) (IsLast : Verdict → Type 0) (lefs : List (List ℕ)) (before after : List ℕ)
+pub record ComparesAs (IsOne : DesignModel → Difference → Type 0) (IsLast : Verdict → Type 0) (profile : Profile) (lefs : List (List ℕ)) (before after : List ℕ)
     (status : Status) (text : List ℕ) : Type 0 where
-  pub compares : Compares lefs before after status text
+  pub compares : Compares profile lefs before after status text
   pub each : All (IsOne compares.first) compares.list
   pub last : IsLast compares.verdict
 
 -- Unless memory runs out, `compare` answers nothing to these DEFs but such lines.
-abbrev pub AnswersAs : (DesignModel → Difference → Type 0) → (Verdict → Type 0) → List (List ℕ) → List ℕ → List ℕ → Type 0
-AnswersAs IsOne IsLast lefs before after =
-    (status : Status) (text : List ℕ) → IsComparison lefs before after status text → status ≢ Memory → ComparesAs IsOne IsLast lefs before after status text
+abbrev pub AnswersAs : (DesignModel → Difference → Type 0) → (Verdict → Type 0) → Profile → List (List ℕ) → List ℕ → List ℕ → Type 0
+AnswersAs IsOne IsLast profile lefs before after =
+    (status : Status) (text : List ℕ) → IsComparison profile lefs before after status text → status ≢ Memory → ComparesAs IsOne IsLast profile lefs before
+    after status text
 
 -- a line for each movable component that has another place, and `same` or `places N`
-abbrev pub AnswersPlaces : List (List ℕ) → List ℕ → List ℕ → Type 0
-AnswersPlaces lefs before after = AnswersAs IsMove IsOfPlaces lefs before after
+abbrev pub AnswersPlaces : Profile → List (List ℕ) → List ℕ → List ℕ → Type 0
+AnswersPlaces profile lefs before after = AnswersAs IsMove IsOfPlaces profile lefs before after
 
 -- a line for each entry of NETS that has more wires, and `same` or `wires N`
-abbrev pub AnswersWires : List (List ℕ) → List ℕ → List ℕ → Type 0
-AnswersWires lefs before after = AnswersAs (λ first difference. IsGrowth difference) IsOfWires lefs before after
+abbrev pub AnswersWires : Profile → List (List ℕ) → List ℕ → List ℕ → Type 0
+AnswersWires profile lefs before after = AnswersAs (λ first difference. IsGrowth difference) IsOfWires profile lefs before after
 
 -- lines of these two kinds, and a last line on no others
-abbrev pub AnswersPlacesAndWires : List (List ℕ) → List ℕ → List ℕ → Type 0
-AnswersPlacesAndWires lefs before after = AnswersAs (λ first difference. IsMove first difference ⊎ IsGrowth difference) IsOfPlacesAndWires lefs before after
+abbrev pub AnswersPlacesAndWires : Profile → List (List ℕ) → List ℕ → List ℕ → Type 0
+AnswersPlacesAndWires profile lefs before after =
+    AnswersAs (λ first difference. IsMove first difference ⊎ IsGrowth difference) IsOfPlacesAndWires profile lefs before after

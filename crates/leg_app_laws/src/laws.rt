@@ -1,7 +1,7 @@
 //! What a command prints, another one judges as the first one's definition says.
 //!
 //! No function does anything: its contract is the law, and its body names the laws that it follows from. The text is read as
-//! a DEF under the LEFs of the run that printed it. No name in it ends with `;`, for it would be read as two words, and the
+//! a DEF under the LEFs of the run that printed it, all in the narrow profile. No name in it ends with `;`, for it would be read as two words, and the
 //! text is no longer than a text may be.
 
 ghost use Rattle.std.specs.Prelude.{ℕ, ◌≤◌, List, length};
@@ -10,11 +10,13 @@ ghost use Rattle.leg_lib_records.specs.Records.{LibraryModel};
 ghost use Rattle.leg_design_records.specs.Records.{DesignModel};
 ghost use Rattle.leg_app_input.specs.declared.command.Command.TheVariants.{PlaceCheck, Check};
 ghost use Rattle.leg_print_laws.specs.PrintedNames.{StayOne, printed_names};
+ghost use Rattle.leg_grammar.specs.declared.profile.Profile.TheVariants.{Narrow};
 ghost use Rattle.leg_grammar.specs.Texts.{DenoteDesign};
 ghost use Rattle.leg_app.specs.LegaliseResult.{PrintsLegalised};
 ghost use Rattle.leg_app.specs.RouteResult.{PrintsRouted};
 ghost use Rattle.leg_app.specs.FlowResult.{PrintsFlow};
 ghost use Rattle.leg_app.specs.FinishResult.{PrintsFinished};
+ghost use Rattle.leg_app.specs.PrintResult.{PrintsDesign};
 ghost use Rattle.leg_app_laws.specs.Legal.{AnswersLegal};
 ghost use Rattle.leg_app_laws.specs.Lines.{AnswersPlaces, AnswersWires, AnswersPlacesAndWires};
 
@@ -26,24 +28,27 @@ use leg_compare::laws::{
 use leg_print_laws::laws::printed_text_says_its_design;
 
 /// What `route`, `legalise`, `flow` and `finish` print denotes the design that they made, under its library: the lines on how far
-/// components have moved, and on added wires, are comments.
+/// components have moved, and on added wires, are comments. What `print` prints denotes the design of its DEF.
 pub fn printed_texts_say_their_designs()
     ensures routed { (lefs : List (List ℕ)) (def text : List ℕ) (library : LibraryModel) (design : DesignModel)
-        → DenoteDesign lefs def library design → (printed : PrintsRouted design text)
+        → DenoteDesign Narrow lefs def library design → (printed : PrintsRouted design text)
         → StayOne (printed_names printed.routed) → length text ≤ TEXT_LIMIT
-        → DenoteDesign lefs text printed.routed.library printed.routed }
+        → DenoteDesign Narrow lefs text printed.routed.library printed.routed }
     ensures legalised { (lefs : List (List ℕ)) (def text : List ℕ) (library : LibraryModel) (design : DesignModel)
-        → DenoteDesign lefs def library design → (printed : PrintsLegalised design text)
+        → DenoteDesign Narrow lefs def library design → (printed : PrintsLegalised design text)
         → StayOne (printed_names printed.legalised) → length text ≤ TEXT_LIMIT
-        → DenoteDesign lefs text printed.legalised.library printed.legalised }
+        → DenoteDesign Narrow lefs text printed.legalised.library printed.legalised }
     ensures flow { (lefs : List (List ℕ)) (def text : List ℕ) (library : LibraryModel) (design : DesignModel)
-        → DenoteDesign lefs def library design → (printed : PrintsFlow design text)
+        → DenoteDesign Narrow lefs def library design → (printed : PrintsFlow design text)
         → StayOne (printed_names printed.routed) → length text ≤ TEXT_LIMIT
-        → DenoteDesign lefs text printed.routed.library printed.routed }
+        → DenoteDesign Narrow lefs text printed.routed.library printed.routed }
     ensures finished { (lefs : List (List ℕ)) (def text : List ℕ) (library : LibraryModel) (design : DesignModel)
-        → DenoteDesign lefs def library design → (printed : PrintsFinished design text)
+        → DenoteDesign Narrow lefs def library design → (printed : PrintsFinished design text)
         → StayOne (printed_names printed.finished) → length text ≤ TEXT_LIMIT
-        → DenoteDesign lefs text printed.finished.library printed.finished }
+        → DenoteDesign Narrow lefs text printed.finished.library printed.finished }
+    ensures printed { (lefs : List (List ℕ)) (def text : List ℕ) (library : LibraryModel) (design : DesignModel)
+        → DenoteDesign Narrow lefs def library design → PrintsDesign design text
+        → StayOne (printed_names design) → length text ≤ TEXT_LIMIT → DenoteDesign Narrow lefs text library design }
 {
     printed_text_says_its_design();
 }
@@ -51,8 +56,8 @@ pub fn printed_texts_say_their_designs()
 /// What `route` prints, `check` answers `legal`.
 pub fn routed_text_is_legal()
     ensures { (lefs : List (List ℕ)) (def text : List ℕ) (library : LibraryModel) (design : DesignModel)
-        → DenoteDesign lefs def library design → (printed : PrintsRouted design text)
-        → StayOne (printed_names printed.routed) → length text ≤ TEXT_LIMIT → AnswersLegal Check lefs text }
+        → DenoteDesign Narrow lefs def library design → (printed : PrintsRouted design text)
+        → StayOne (printed_names printed.routed) → length text ≤ TEXT_LIMIT → AnswersLegal Check Narrow lefs text }
 {
     printed_text_says_its_design();
     command_has_one_answer();
@@ -61,8 +66,8 @@ pub fn routed_text_is_legal()
 /// What `legalise` prints, `place-check` answers `legal`.
 pub fn legalised_text_is_legally_placed()
     ensures { (lefs : List (List ℕ)) (def text : List ℕ) (library : LibraryModel) (design : DesignModel)
-        → DenoteDesign lefs def library design → (printed : PrintsLegalised design text)
-        → StayOne (printed_names printed.legalised) → length text ≤ TEXT_LIMIT → AnswersLegal PlaceCheck lefs text }
+        → DenoteDesign Narrow lefs def library design → (printed : PrintsLegalised design text)
+        → StayOne (printed_names printed.legalised) → length text ≤ TEXT_LIMIT → AnswersLegal PlaceCheck Narrow lefs text }
 {
     printed_text_says_its_design();
     command_has_one_answer();
@@ -71,8 +76,8 @@ pub fn legalised_text_is_legally_placed()
 /// What `flow` prints, `check` answers `legal`.
 pub fn flow_text_is_legal()
     ensures { (lefs : List (List ℕ)) (def text : List ℕ) (library : LibraryModel) (design : DesignModel)
-        → DenoteDesign lefs def library design → (printed : PrintsFlow design text)
-        → StayOne (printed_names printed.routed) → length text ≤ TEXT_LIMIT → AnswersLegal Check lefs text }
+        → DenoteDesign Narrow lefs def library design → (printed : PrintsFlow design text)
+        → StayOne (printed_names printed.routed) → length text ≤ TEXT_LIMIT → AnswersLegal Check Narrow lefs text }
 {
     printed_text_says_its_design();
     command_has_one_answer();
@@ -81,8 +86,8 @@ pub fn flow_text_is_legal()
 /// What `finish` prints, `check` answers `legal`.
 pub fn finished_text_is_legal()
     ensures { (lefs : List (List ℕ)) (def text : List ℕ) (library : LibraryModel) (design : DesignModel)
-        → DenoteDesign lefs def library design → (printed : PrintsFinished design text)
-        → StayOne (printed_names printed.finished) → length text ≤ TEXT_LIMIT → AnswersLegal Check lefs text }
+        → DenoteDesign Narrow lefs def library design → (printed : PrintsFinished design text)
+        → StayOne (printed_names printed.finished) → length text ≤ TEXT_LIMIT → AnswersLegal Check Narrow lefs text }
 {
     printed_text_says_its_design();
     command_has_one_answer();
@@ -92,8 +97,8 @@ pub fn finished_text_is_legal()
 /// and `same` or `places N`.
 pub fn legalised_text_differs_in_places()
     ensures { (lefs : List (List ℕ)) (def text : List ℕ) (library : LibraryModel) (design : DesignModel)
-        → DenoteDesign lefs def library design → (printed : PrintsLegalised design text)
-        → StayOne (printed_names printed.legalised) → length text ≤ TEXT_LIMIT → AnswersPlaces lefs def text }
+        → DenoteDesign Narrow lefs def library design → (printed : PrintsLegalised design text)
+        → StayOne (printed_names printed.legalised) → length text ≤ TEXT_LIMIT → AnswersPlaces Narrow lefs def text }
 {
     printed_texts_say_their_designs();
     texts_say_one_design();
@@ -103,8 +108,8 @@ pub fn legalised_text_differs_in_places()
 /// What `route` prints differs in added wires alone: `compare` answers a line for each entry of `NETS` that has more, and `same` or `wires N`.
 pub fn routed_text_differs_in_wires()
     ensures { (lefs : List (List ℕ)) (def text : List ℕ) (library : LibraryModel) (design : DesignModel)
-        → DenoteDesign lefs def library design → (printed : PrintsRouted design text)
-        → StayOne (printed_names printed.routed) → length text ≤ TEXT_LIMIT → AnswersWires lefs def text }
+        → DenoteDesign Narrow lefs def library design → (printed : PrintsRouted design text)
+        → StayOne (printed_names printed.routed) → length text ≤ TEXT_LIMIT → AnswersWires Narrow lefs def text }
 {
     printed_texts_say_their_designs();
     texts_say_one_design();
@@ -115,8 +120,8 @@ pub fn routed_text_differs_in_wires()
 /// `wires N`.
 pub fn finished_text_differs_in_wires()
     ensures { (lefs : List (List ℕ)) (def text : List ℕ) (library : LibraryModel) (design : DesignModel)
-        → DenoteDesign lefs def library design → (printed : PrintsFinished design text)
-        → StayOne (printed_names printed.finished) → length text ≤ TEXT_LIMIT → AnswersWires lefs def text }
+        → DenoteDesign Narrow lefs def library design → (printed : PrintsFinished design text)
+        → StayOne (printed_names printed.finished) → length text ≤ TEXT_LIMIT → AnswersWires Narrow lefs def text }
 {
     printed_texts_say_their_designs();
     texts_say_one_design();
@@ -127,8 +132,8 @@ pub fn finished_text_differs_in_wires()
 /// `differs N`.
 pub fn flow_text_differs_in_places_and_wires()
     ensures { (lefs : List (List ℕ)) (def text : List ℕ) (library : LibraryModel) (design : DesignModel)
-        → DenoteDesign lefs def library design → (printed : PrintsFlow design text)
-        → StayOne (printed_names printed.routed) → length text ≤ TEXT_LIMIT → AnswersPlacesAndWires lefs def text }
+        → DenoteDesign Narrow lefs def library design → (printed : PrintsFlow design text)
+        → StayOne (printed_names printed.routed) → length text ≤ TEXT_LIMIT → AnswersPlacesAndWires Narrow lefs def text }
 {
     printed_texts_say_their_designs();
     texts_say_one_design();

@@ -7,6 +7,7 @@ use Rattle.leg_lex.specs.declared.read_fault.ReadFault.{ReadFault}
 use Rattle.leg_lib_records.specs.declared.scale_fault.ScaleKind.{ScaleKind}
 use Rattle.leg_lib_records.specs.declared.scale_fault.ScaleFault.{ScaleFault}
 use Rattle.leg_lib_records.specs.Records.{RawLibraryModel}
+use Rattle.leg_grammar.specs.declared.profile.Profile.TheVariants.{Narrow}
 use Rattle.leg_grammar.specs.Lef.Library.{DenoteLibrary}
 use Rattle.leg_app_reason.specs.declared.reason.Reason.{Reason}
 use Rattle.leg_app_reason.specs.declared.reason.Reason.TheVariants.{Read, NoLibrary, Scale}
@@ -98,7 +99,7 @@ pub record ShowsLength (texts : TextsModel) (fault : ScaleFault) (units : ℕ) (
   pub are : AreTokens (text_of texts number) words
   pub there : IsInForm fault.kind fault.name words form written line
   pub library : RawLibraryModel
-  pub of_lefs : DenoteLibrary texts.lefs library
+  pub of_lefs : DenoteLibrary texts.profile texts.lefs library
   pub kept : IsOfLibrary library fault.kind form fault.name written
   pub has : HasFault fault.kind units written
   pub is : message ≡ length_message texts number line form fault.name written (scale_reason fault.kind units)
@@ -115,9 +116,9 @@ IsMessage texts NoLibrary message = (note : Option Note) × (message ≡ line_me
 IsMessage texts (Scale fault units) message = IsScaleMessage texts fault units message
 IsMessage texts reason message = message ≡ advice_message texts reason
 
--- the texts of standard input
+-- the texts of standard input, which are read in the narrow profile
 abbrev pub stream_texts : List ℕ → List ℕ → TextsModel
-stream_texts lef def = record { names = None; lefs = lef ∷ []; def = def }
+stream_texts lef def = record { profile = Narrow; names = None; lefs = lef ∷ []; def = def }
 
 -- The texts of standard input: its LEF and its DEF, or all of it as the LEF where no LEF ends in it.
 abbrev pub AreStreamTexts : List ℕ → TextsModel → Type 0

@@ -1,13 +1,15 @@
 -- The texts of a run, by their numbers: LEFs count from 0, and the DEF is next.
 use Rattle.std.specs.Prelude.{ℕ, Bool, List, [], length, nat_lt, if◌then◌else◌, Option, None, Some, slice_get, unwrap_or, codes}
+use Rattle.leg_grammar.specs.declared.profile.Profile.{Profile}
 
 -- how the words of a command line name the files
 pub record FileNames : Type 0 where
   pub lefs : List (List ℕ)
   pub def : List ℕ
 
--- the texts, and the names of their files; none for standard input
+-- the texts, the profile in which they are read, and the names of their files; none for standard input
 pub record TextsModel : Type 0 where
+  pub profile : Profile
   pub names : Option FileNames
   pub lefs : List (List ℕ)
   pub def : List ℕ

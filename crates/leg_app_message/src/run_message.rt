@@ -11,6 +11,7 @@ use crate::scaling::scale_message;
 use crate::texts::Texts;
 use leg_app_input::split_stream;
 use leg_app_reason::Reason;
+use leg_grammar::Profile;
 use leg_lex::FaultKind;
 use std::alloc::{AllocError, Allocator};
 
@@ -69,7 +70,7 @@ fn advice_message<A: Allocator + Copy, B: Allocator>(
     Ok(message)
 }
 
-/// The message on a run over standard input that stopped for this reason.
+/// The message on a run over standard input, which is read in the narrow profile, that stopped for this reason.
 pub fn stream_message<A: Allocator + Copy, B: Allocator>(
     alloc: A,
     stream: &[u8],
@@ -93,6 +94,7 @@ fn parts_message<A: Allocator + Copy, B: Allocator>(
     ensures { IfOk result (λ m. IsMessage (stream_texts lef.now def.now) reason.now m.items) }
 {
     let texts = Texts {
+        profile: Profile::Narrow,
         paths: None,
         lefs: &[lef],
         def,

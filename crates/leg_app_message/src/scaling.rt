@@ -15,7 +15,7 @@ use crate::sentence::scale_sentence_of;
 use crate::text_line::{line_of, push_shown, push_shown_bytes};
 use crate::texts::Texts;
 use leg_lex::{NumFault, Token, UNITS_LIMIT, is_keyword, micron, tokens};
-use leg_lib::read_lefs;
+use leg_lib::read_lefs_as;
 use leg_lib_records::{RawLibrary, ScaleFault, ScaleKind};
 use leg_print_words::{push_count, push_parts};
 use std::alloc::{AllocError, Allocator};
@@ -41,7 +41,7 @@ pub(crate) fn scale_message<A: Allocator + Copy>(
 ) -> Result<Vec<u8, A>, AllocError>
     ensures { IfOk result (λ m. IsScaleMessage texts.now fault.now units m.items) }
 {
-    let Ok(library) = read_lefs(alloc, texts.lefs) else {
+    let Ok(library) = read_lefs_as(alloc, texts.profile, texts.lefs) else {
         return name_message(alloc, fault, units);
     };
     for number in 0..texts.def_number() {

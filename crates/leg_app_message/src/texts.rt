@@ -3,6 +3,7 @@
 ghost use Rattle.std.specs.Prelude.{◌≡◌, length};
 ghost use Rattle.leg_app_message.specs.Texts.{path_of, text_of, part_of};
 
+use leg_grammar::Profile;
 use std::marker::Model;
 
 /// The names of files, as they were given.
@@ -14,9 +15,11 @@ pub struct Paths<'a> {
     pub def: &'a [u8],
 }
 
-/// The texts of a run, and the names of their files.
+/// The texts of a run, how they are read, and the names of their files.
 #[derive(Drop)]
 pub struct Texts<'a> {
+    /// The profile in which the texts are read.
+    pub profile: Profile,
     /// The names; none where the texts are those of standard input.
     pub paths: Option<Paths<'a>>,
     /// The texts of the LEFs, in order.
@@ -32,6 +35,7 @@ impl<'a> Model for Texts<'a> {
     ghost Value = { TextsModel };
 
     ghost view = { λ t. record {
+      profile = t.profile;
       names = option_map (λ paths. record { lefs = map (λ l. l.now) paths.lefs.now; def = paths.def.now }) t.paths;
       lefs = map (λ l. l.now) t.lefs.now;
       def = t.def.now;

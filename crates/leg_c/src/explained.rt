@@ -3,7 +3,7 @@
 ghost use Rattle.std.specs.Prelude.{◌≡◌, map, IfSome, IfNone};
 ghost use Rattle.leg_app.specs.declared.end.Halt.TheVariants.{Usage};
 ghost use Rattle.leg_app.specs.End.{halt_code};
-ghost use Rattle.leg_c_call.specs.Call.{command_of};
+ghost use Rattle.leg_c_call.specs.Call.{request_of};
 ghost use Rattle.leg_c_call.specs.Explanation.{named_texts, AnswersExplained};
 
 use leg_c_memory::Memory;
@@ -22,10 +22,10 @@ pub extern "C" fn lefdef_run_explained(
     message: &mut [u8],
     message_length: &mut usize,
 ) -> u32
-    ensures answer { IfSome (command_of command) (λ asked.
-        AnswersExplained asked (named_texts (map (λ n. n.now) lef_names.now) def_name.now (map (λ t. t.now) lefs.now) def.now)
+    ensures answer { IfSome (request_of command) (λ asked.
+        AnswersExplained asked.0 (named_texts asked.1 (map (λ n. n.now) lef_names.now) def_name.now (map (λ t. t.now) lefs.now) def.now)
         out.old out.new length.new result message.old message.new message_length.new) }
-    ensures unknown { IfNone (command_of command)
+    ensures unknown { IfNone (request_of command)
         ((result ≡ halt_code Usage) × (length.new ≡ 0) × (out.new ≡ out.old) × (message_length.new ≡ 0) × (message.new ≡ message.old)) }
 {
     leg_c_call::call_explained(

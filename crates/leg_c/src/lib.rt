@@ -4,7 +4,7 @@
 ghost use Rattle.std.specs.Prelude.{◌≡◌, map, IfSome, IfNone};
 ghost use Rattle.leg_app.specs.declared.end.Halt.TheVariants.{Usage};
 ghost use Rattle.leg_app.specs.End.{halt_code};
-ghost use Rattle.leg_c_call.specs.Call.{command_of, Answers};
+ghost use Rattle.leg_c_call.specs.Call.{request_of, Answers};
 
 mod explained;
 
@@ -21,9 +21,9 @@ pub extern "C" fn lefdef_run(
     out: &mut [u8],
     length: &mut usize,
 ) -> u32
-    ensures answer { IfSome (command_of command) (λ asked.
-        Answers asked (map (λ t. t.now) lefs.now) def.now out.old out.new length.new result) }
-    ensures unknown { IfNone (command_of command)
+    ensures answer { IfSome (request_of command) (λ asked.
+        Answers asked.0 asked.1 (map (λ t. t.now) lefs.now) def.now out.old out.new length.new result) }
+    ensures unknown { IfNone (request_of command)
         ((result ≡ halt_code Usage) × (length.new ≡ 0) × (out.new ≡ out.old)) }
 {
     leg_c_call::call(memory, command, lefs, def, out, length)

@@ -1,5 +1,6 @@
 -- What is known of a reason is known of it whatever memory holds its names.
 use Rattle.std.proofs.Common.{ℕ, List, Option, None, Some, option_map}
+use Rattle.leg_grammar.specs.declared.profile.Profile.{Profile}
 use Rattle.leg_app_input.specs.declared.command.Command.{Command}
 use Rattle.leg_app_reason.specs.declared.reason.Reason.{Reason}
 use Rattle.leg_app_reason.specs.declared.reason.Reason.TheVariants.{Read, NoLibrary, Scale, TooMany, FixedIllegal, NoSite, NoRoom, NotClean, GridTooLarge, Unroutable, Unreachable, Unfinished}
@@ -7,8 +8,8 @@ use Rattle.leg_app.specs.declared.status.Status.{Status}
 use Rattle.leg_app.specs.Reason.{ReportsReason, IsSoOfTexts, IsExplained}
 use Rattle.leg_c_call.specs.Explanation.{said}
 
-module _ {A : Type 0} (command : Command) (lefs : List (List ℕ)) (def : List ℕ) where
-  holds_said : (reason : Reason A) → IsSoOfTexts command lefs def reason → IsSoOfTexts command lefs def (said reason)
+module _ {A : Type 0} (command : Command) (profile : Profile) (lefs : List (List ℕ)) (def : List ℕ) where
+  holds_said : (reason : Reason A) → IsSoOfTexts command profile lefs def reason → IsSoOfTexts command profile lefs def (said reason)
   holds_said (Read fault master) h = h
   holds_said NoLibrary h = record { library = h.library; design = h.design; say = h.say; holds = h.holds }
   holds_said (Scale fault units) h = h
@@ -36,8 +37,8 @@ module _ {A : Type 0} (command : Command) (lefs : List (List ℕ)) (def : List �
   tells_said (Unreachable net piece) text h = h
   tells_said Unfinished text h = h
 
-  pub explained_said : (reason : Option (Reason A)) (status : Status) (text : List ℕ) → IsExplained command lefs def reason status text
-      → IsExplained command lefs def (option_map said reason) status text
+  pub explained_said : (reason : Option (Reason A)) (status : Status) (text : List ℕ) → IsExplained command profile lefs def reason status text
+      → IsExplained command profile lefs def (option_map said reason) status text
   explained_said None status text h = record { answer = h.answer; explains = h.explains }
   explained_said (Some reason) status text h =
       record { answer = h.answer; explains = (h.explains.0, tells_said reason text h.explains.1, holds_said reason h.explains.2) }

@@ -1,5 +1,6 @@
 -- Calls from other languages that are answered with a message (lefdef's own rules).
 use Rattle.std.specs.Prelude.{◌≡◌, ℕ, List, [], length, ◌⊎◌, Option, None, Some}
+use Rattle.leg_grammar.specs.declared.profile.Profile.{Profile}
 use Rattle.leg_app_input.specs.declared.command.Command.{Command}
 use Rattle.leg_app_reason.specs.declared.reason.Reason.{Reason}
 use Rattle.leg_app_reason.specs.declared.reason.Reason.TheVariants.{Read, NoLibrary, Scale, TooMany, FixedIllegal, NoSite, NoRoom, NotClean, GridTooLarge, Unroutable, Unreachable, Unfinished}
@@ -10,9 +11,10 @@ use Rattle.leg_app.specs.Answer.{exit_code}
 use Rattle.leg_app.specs.Reason.{IsExplained}
 use Rattle.leg_c_call.specs.Call.{overlay}
 
--- texts of files with these names
-abbrev pub named_texts : List (List ℕ) → List ℕ → List (List ℕ) → List ℕ → TextsModel
-named_texts lef_names def_name lefs def = record { names = Some (record { lefs = lef_names; def = def_name }); lefs = lefs; def = def }
+-- texts of files with these names, which are read in the profile
+abbrev pub named_texts : Profile → List (List ℕ) → List ℕ → List (List ℕ) → List ℕ → TextsModel
+named_texts profile lef_names def_name lefs def =
+    record { profile = profile; names = Some (record { lefs = lef_names; def = def_name }); lefs = lefs; def = def }
 
 -- a reason, whatever memory holds its names
 abbrev pub ReasonModel : Type 0
@@ -44,7 +46,7 @@ pub record AnswersExplained (command : Command) (texts : TextsModel) (before aft
   pub text : List ℕ
   pub reason : Option ReasonModel
   pub message : List ℕ
-  pub answer : IsExplained command texts.lefs texts.def reason status text
+  pub answer : IsExplained command texts.profile texts.lefs texts.def reason status text
   pub ends : code ≡ exit_code status
   pub counts : count ≡ length text
   pub fills : after ≡ overlay text before

@@ -3,12 +3,12 @@
 ghost use Rattle.std.specs.Prelude.{◌≡◌, map, option_map, IfSome, IfNone};
 ghost use Rattle.leg_app.specs.declared.end.Halt.TheVariants.{Usage};
 ghost use Rattle.leg_app.specs.End.{halt_code};
-ghost use Rattle.leg_c_call.specs.Call.{command_of};
+ghost use Rattle.leg_c_call.specs.Call.{request_of};
 ghost use Rattle.leg_c_call.specs.Explanation.{named_texts, said, HasMessage, AnswersExplained};
 
 use crate::lent_call::{NO_MEMORY, give, give_text};
-use crate::number::command_of;
-use leg_app::{Halt, Reason, Status, answer_to};
+use crate::number::request_of;
+use leg_app::{Halt, Reason, Status, answer_to_as};
 use leg_app_input::Command;
 use leg_app_message::{Paths, Texts, message};
 use leg_c_memory::{LentHeap, Memory};
@@ -30,19 +30,20 @@ pub fn call_explained(
     message: &mut [u8],
     message_length: &mut usize,
 ) -> u32
-    ensures answer { IfSome (command_of command) (λ asked.
-        AnswersExplained asked (named_texts (map (λ n. n.now) lef_names.now) def_name.now (map (λ t. t.now) lefs.now) def.now)
+    ensures answer { IfSome (request_of command) (λ asked.
+        AnswersExplained asked.0 (named_texts asked.1 (map (λ n. n.now) lef_names.now) def_name.now (map (λ t. t.now) lefs.now) def.now)
         out.old out.new length.new result message.old message.new message_length.new) }
-    ensures unknown { IfNone (command_of command)
+    ensures unknown { IfNone (request_of command)
         ((result ≡ halt_code Usage) × (length.new ≡ 0) × (out.new ≡ out.old) × (message_length.new ≡ 0) × (message.new ≡ message.old)) }
 {
-    let Some(command) = command_of(command) else {
+    let Some((command, profile)) = request_of(command) else {
         *length = 0;
         *message_length = 0;
         return u32::from(Halt::Usage.code());
     };
     let heap = LentHeap::new(memory);
     let texts = Texts {
+        profile,
         paths: Some(Paths {
             lefs: lef_names,
             def: def_name,
@@ -65,7 +66,14 @@ fn answer_into<A: Allocator + Copy>(
 ) -> u32
     ensures { AnswersExplained command texts.now out.old out.new length.new result message.old message.new message_length.new }
 {
-    match answer_to(alloc, command, texts.lefs, texts.def, &mut ()) {
+    match answer_to_as(
+        alloc,
+        command,
+        texts.profile,
+        texts.lefs,
+        texts.def,
+        &mut (),
+    ) {
         Ok(answer) => {
             let explanation = message_on(alloc, texts, &answer.reason);
             give_text(&explanation, message, message_length);

@@ -1,4 +1,4 @@
-//! lefdef's commands as one call that other languages can make: commands by their numbers, and the memory, the texts and the
+//! lefdef's commands as one call that other languages can make: commands and profiles by numbers, and the memory, the texts and the
 //! buffers for the answer and the message lent by the caller.
 #![tactic(auto)]
 
@@ -8,4 +8,4 @@ mod number;
 
 pub use explained_call::call_explained;
 pub use lent_call::call;
-pub use number::command_of;
+pub use number::request_of;

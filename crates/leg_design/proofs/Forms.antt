@@ -5,6 +5,7 @@ use Rattle.leg_lex.specs.Until.{until}
 use Rattle.leg_lex.specs.Statements.{at_end}
 use Rattle.leg_lex.proofs.Until as loops
 use Rattle.leg_lib_records.specs.Records.{LibraryModel}
+use Rattle.leg_grammar.specs.declared.profile.Profile.{Profile}
 use Rattle.leg_grammar.specs.Def.Parts.{DesignParts, no_parts}
 use Rattle.leg_grammar.specs.Def.Form.{def_form_at, design_in}
 use Rattle.leg_design.proofs.FormsShorter.{form_shortens}
@@ -32,15 +33,15 @@ forms_failed first parts all words ended so_far said test more =
     sym so_far ∙ forms_fail parts words said (sym test ∙ more)
 
 -- something stands after END DESIGN
-pub more_after : (library : LibraryModel) (parts : DesignParts) (words rest after : Words)
-    → until at_end def_form_at (no_parts library) words ≡ Some (parts, rest) → end_at (codes "DESIGN") rest ≡ Some (tt, after)
-    → nothing_at after ≡ None → design_in library words ≡ None
+pub more_after : (profile : Profile) (library : LibraryModel) (parts : DesignParts) (words rest after : Words)
+    → until at_end def_form_at (no_parts profile library) words ≡ Some (parts, rest) → end_at (codes "DESIGN") rest ≡ Some (tt, after)
+    → nothing_at after ≡ None → design_in profile library words ≡ None
 unfolding design_in
-more_after library parts words rest after forms end more = rw (forms, end, more) refl
+more_after profile library parts words rest after forms end more = rw (forms, end, more) refl
 
 -- END DESIGN doesn't stand
-pub no_end : (library : LibraryModel) (parts : DesignParts) (words rest : Words)
-    → until at_end def_form_at (no_parts library) words ≡ Some (parts, rest) → end_at (codes "DESIGN") rest ≡ None
-    → design_in library words ≡ None
+pub no_end : (profile : Profile) (library : LibraryModel) (parts : DesignParts) (words rest : Words)
+    → until at_end def_form_at (no_parts profile library) words ≡ Some (parts, rest) → end_at (codes "DESIGN") rest ≡ None
+    → design_in profile library words ≡ None
 unfolding design_in
-no_end library parts words rest forms end = rw (forms, end) refl
+no_end profile library parts words rest forms end = rw (forms, end) refl

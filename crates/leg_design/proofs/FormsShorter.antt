@@ -116,13 +116,13 @@ nets_form_below : (parts : DesignParts) (words : Words) → Below (length words)
 unfolding nets_form
 nets_form_below parts words =
     below_ask (unless parts.has.nets) (λ once.
-    below_bind (omega arith) (nets_below (net_scope parts.design) false parts.design.special words) (λ nets l. below_some _ nets.1 l))
+    below_bind (omega arith) (nets_below (net_scope parts.profile parts.design) false parts.design.special words) (λ nets l. below_some _ nets.1 l))
 
 special_form_below : (parts : DesignParts) (words : Words) → Below (length words) (special_form parts words)
 unfolding special_form
 special_form_below parts words =
     below_ask (unless parts.has.special) (λ once.
-    below_bind (omega arith) (nets_below (net_scope parts.design) true parts.design.nets words) (λ special l. below_some _ special.1 l))
+    below_bind (omega arith) (nets_below (net_scope parts.profile parts.design) true parts.design.nets words) (λ special l. below_some _ special.1 l))
 
 header_form_below : (parts : DesignParts) (words : Words) → Below (length words) (header_form parts words)
 unfolding header_form

@@ -12,6 +12,7 @@ use Rattle.leg_design_records.specs.declared.limits.TheConstants.{PART_LIMIT}
 use Rattle.leg_design_records.specs.declared.records.Terminal.{Terminal}
 use Rattle.leg_design_records.specs.declared.records.Terminal.TheVariants.{Comp, Pin}
 use Rattle.leg_design_records.specs.Records.{NetModel, DesignModel}
+use Rattle.leg_grammar.specs.declared.profile.Profile.{Profile}
 use Rattle.leg_grammar.specs.Def.Parts.{DesignParts, no_parts, net_scope}
 use Rattle.leg_grammar.specs.Def.Form.{def_form_at, all_nets, with_all_nets, design_of, design_in}
 use Rattle.leg_design_records.specs.WellFormedNets.{IsTerminal, IsNet, HasNets}
@@ -38,18 +39,18 @@ module _ (parts : DesignParts) where
   said : DesignModel
   said = with_all_nets parts.design
 
-  terminal_is : (t : Terminal) → IsKnownTerminal (net_scope parts.design) t → IsTerminal said t
+  terminal_is : (t : Terminal) → IsKnownTerminal (net_scope parts.profile parts.design) t → IsTerminal said t
   unfolding said
   terminal_is (Comp c k) is = is
   terminal_is (Pin p) is = is
 
-  net_is : (special : Bool) (net : NetModel) → IsKnownNet (net_scope parts.design) special net → IsNet said special net
+  net_is : (special : Bool) (net : NetModel) → IsKnownNet (net_scope parts.profile parts.design) special net → IsNet said special net
   unfolding said
   net_is special net is = record {
     name = is.name;
     no_must_join = is.no_must_join;
     usage = is.usage;
-    terminals = All-weaker (IsKnownTerminal (net_scope parts.design)) (IsTerminal said) terminal_is net.terminals is.terminals;
+    terminals = All-weaker (IsKnownTerminal (net_scope parts.profile parts.design)) (IsTerminal said) terminal_is net.terminals is.terminals;
     once = is.once;
     wires = is.wires;
   }
@@ -57,16 +58,16 @@ module _ (parts : DesignParts) where
   nets_are : HasNetParts parts → nat_lt PART_LIMIT (all_terminals parts.design) ≡ false → HasNets said
   unfolding said
   nets_are sound few =
-      let all = lone_pins_listed (net_scope parts.design) (lists_of parts.design.nets parts.design.special) sound.entries in
+      let all = lone_pins_listed (net_scope parts.profile parts.design) (lists_of parts.design.nets parts.design.special) sound.entries in
       let entries = all.entries in
       record {
         nets = record {
-          each = All-weaker (IsKnownNet (net_scope parts.design) false) (IsNet said false) (net_is false)
+          each = All-weaker (IsKnownNet (net_scope parts.profile parts.design) false) (IsNet said false) (net_is false)
               (all_nets parts.design).nets entries.nets;
           apart = entries.nets_apart;
         };
         special = record {
-          each = All-weaker (IsKnownNet (net_scope parts.design) true) (IsNet said true) (net_is true)
+          each = All-weaker (IsKnownNet (net_scope parts.profile parts.design) true) (IsNet said true) (net_is true)
               (all_nets parts.design).special entries.special;
           apart = entries.special_apart;
         };
@@ -124,23 +125,26 @@ design_gives library parts are =
       are.sound.same,
     )))
 
-forms_give : (library : LibraryModel) (words : Words) → Gives (λ forms. AreRead library forms.0) (until at_end def_form_at (no_parts library) words)
-forms_give library words =
-    until_gives (AreRead library) at_end def_form_at (form_is_read library) (no_parts library) words
-    (record { sound = no_parts_sound library; nets = no_net_parts library })
+forms_give : (profile : Profile) (library : LibraryModel) (words : Words)
+    → Gives (λ forms. AreRead library forms.0) (until at_end def_form_at (no_parts profile library) words)
+forms_give profile library words =
+    until_gives (AreRead library) at_end def_form_at (form_is_read library) (no_parts profile library) words
+    (record { sound = no_parts_sound profile library; nets = no_net_parts profile library })
 
-text_gives : (library : LibraryModel) (words : Words) → Gives (IsRead library) (design_in library words)
+text_gives : (profile : Profile) (library : LibraryModel) (words : Words) → Gives (IsRead library) (design_in profile library words)
 unfolding design_in
-text_gives library words =
-    gives_bind (forms_give library words) (λ forms are.
+text_gives profile library words =
+    gives_bind (forms_give profile library words) (λ forms are.
     gives_skip (end_at (codes "DESIGN") forms.1) (λ end.
     gives_skip (nothing_at end.1) (λ nothing.
     design_gives library forms.0 are)))
 
 -- A design that a DEF says under a library is well-formed.
-pub reads_well_formed : (library : LibraryModel) (words : Words) (design : DesignModel) → design_in library words ≡ Some design → IsWellFormed design
-reads_well_formed library words design is = ((text_gives library words).given design is).0
+pub reads_well_formed : (profile : Profile) (library : LibraryModel) (words : Words) (design : DesignModel) → design_in profile library words ≡ Some design
+    → IsWellFormed design
+reads_well_formed profile library words design is = ((text_gives profile library words).given design is).0
 
 -- A design that a DEF says under a library has this library.
-pub design_has_library : (library : LibraryModel) (words : Words) → Gives (λ design. design.library ≡ library) (design_in library words)
-design_has_library library words = record { given = λ design is. ((text_gives library words).given design is).1 }
+pub design_has_library : (profile : Profile) (library : LibraryModel) (words : Words)
+    → Gives (λ design. design.library ≡ library) (design_in profile library words)
+design_has_library profile library words = record { given = λ design is. ((text_gives profile library words).given design is).1 }

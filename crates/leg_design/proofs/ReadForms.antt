@@ -10,6 +10,7 @@ use Rattle.leg_grammar.specs.Def.Guard.{when, unless}
 use Rattle.leg_grammar.specs.Def.Header.{word_after, design_name_at, units_at}
 use Rattle.leg_grammar.specs.Def.Net.{nets_at}
 use Rattle.leg_design_records.specs.Records.{TrackModel, PinModel, BlockageModel}
+use Rattle.leg_grammar.specs.declared.profile.Profile.{Profile}
 use Rattle.leg_grammar.specs.Def.Parts.{DesignParts, no_parts, net_scope, divider_form, bus_form, name_form, units_form, die_form, row_form, track_form, vias_form, components_form, pins_form, blockages_form, nets_form, special_form}
 use Rattle.leg_grammar.specs.Def.SkippedForms.{past_def_form}
 use Rattle.leg_grammar.specs.Def.Form.{header_form, def_form_at}
@@ -235,14 +236,14 @@ module _ (library : LibraryModel) (parts : DesignParts) (words : Words) (sound :
   unfolding nets_form
   nets_keep =
       gives_skip (unless parts.has.nets) (λ once.
-      gives_skip (nets_at (net_scope parts.design) false parts.design.special words) (λ nets.
+      gives_skip (nets_at (net_scope parts.profile parts.design) false parts.design.special words) (λ nets.
       gives_some _ (record { same = sound.same; header = sound.header; sections = sound.sections })))
 
   special_keep : Keeps (special_form parts words)
   unfolding special_form
   special_keep =
       gives_skip (unless parts.has.special) (λ once.
-      gives_skip (nets_at (net_scope parts.design) true parts.design.nets words) (λ special.
+      gives_skip (nets_at (net_scope parts.profile parts.design) true parts.design.nets words) (λ special.
       gives_some _ (record { same = sound.same; header = sound.header; sections = sound.sections })))
 
   header_keeps : Keeps (header_form parts words)
@@ -267,8 +268,8 @@ module _ (library : LibraryModel) (parts : DesignParts) (words : Words) (sound :
       (gives_if (is_at (codes "SPECIALNETS") words) special_keep
       (gives_if (is_at (codes "NETS") words) nets_keep header_keeps)))))
 
-pub no_parts_sound : (library : LibraryModel) → HasSoundParts library (no_parts library)
-no_parts_sound library = record {
+pub no_parts_sound : (profile : Profile) (library : LibraryModel) → HasSoundParts library (no_parts profile library)
+no_parts_sound profile library = record {
   same = refl;
   header = record {
     name_ = λ there. absurd (let e : ⊥ = cc in e);

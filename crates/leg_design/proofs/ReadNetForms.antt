@@ -17,6 +17,7 @@ use Rattle.leg_grammar.specs.Def.Pin.{pins_at}
 use Rattle.leg_grammar.specs.Def.Blockage.{blockages_at}
 use Rattle.leg_grammar.specs.Def.LonePins.{NetLists}
 use Rattle.leg_design_records.specs.Records.{NetModel, wire_count}
+use Rattle.leg_grammar.specs.declared.profile.Profile.{Profile}
 use Rattle.leg_grammar.specs.Def.Parts.{DesignParts, no_parts, net_scope, divider_form, bus_form, name_form, units_form, die_form, row_form, track_form, vias_form, components_form, pins_form, blockages_form, nets_form, special_form}
 use Rattle.leg_grammar.specs.Def.SkippedForms.{past_def_form}
 use Rattle.leg_grammar.specs.Def.Form.{header_form, def_form_at}
@@ -38,7 +39,7 @@ pub record HasNetsSoFar (before : NetScopeModel) (vias components pins : Bool) (
 
 abbrev pub HasNetParts : DesignParts → Type 0
 HasNetParts parts =
-    HasNetsSoFar (net_scope parts.design) parts.has.vias parts.has.components parts.has.pins parts.design.nets parts.design.special
+    HasNetsSoFar (net_scope parts.profile parts.design) parts.has.vias parts.has.components parts.has.pins parts.design.nets parts.design.special
 
 entries_grow : (before next : NetScopeModel) (lists : NetLists) → Grows before next → HasEntries before lists → HasEntries next lists
 entries_grow before next lists grows entries = record {
@@ -119,12 +120,12 @@ module _ (parts : DesignParts) (words : Words) (sound : HasNetParts parts) where
   vias_keep =
       gives_bind (unless_gives parts.has.vias) (λ once new.
       gives_skip (vias_at parts.design.library words) (λ vias.
-      let grows = vias_grow (net_scope parts.design) vias.0 (sound.no_vias new) in
+      let grows = vias_grow (net_scope parts.profile parts.design) vias.0 (sound.no_vias new) in
       gives_some _ (record {
         no_vias = never;
         no_components = sound.no_components;
         no_pins = sound.no_pins;
-        entries = entries_grow (net_scope parts.design) _ (lists_of parts.design.nets parts.design.special) grows sound.entries;
+        entries = entries_grow (net_scope parts.profile parts.design) _ (lists_of parts.design.nets parts.design.special) grows sound.entries;
       })))
 
   components_keep : Keeps (components_form parts words)
@@ -132,12 +133,12 @@ module _ (parts : DesignParts) (words : Words) (sound : HasNetParts parts) where
   components_keep =
       gives_bind (unless_gives parts.has.components) (λ once new.
       gives_skip (components_at parts.design.library words) (λ components.
-      let grows = components_grow (net_scope parts.design) components.0 (sound.no_components new) in
+      let grows = components_grow (net_scope parts.profile parts.design) components.0 (sound.no_components new) in
       gives_some _ (record {
         no_vias = sound.no_vias;
         no_components = never;
         no_pins = sound.no_pins;
-        entries = entries_grow (net_scope parts.design) _ (lists_of parts.design.nets parts.design.special) grows sound.entries;
+        entries = entries_grow (net_scope parts.profile parts.design) _ (lists_of parts.design.nets parts.design.special) grows sound.entries;
       })))
 
   pins_keep : Keeps (pins_form parts words)
@@ -145,12 +146,12 @@ module _ (parts : DesignParts) (words : Words) (sound : HasNetParts parts) where
   pins_keep =
       gives_bind (unless_gives parts.has.pins) (λ once new.
       gives_skip (pins_at parts.design.library words) (λ pins.
-      let grows = pins_grow (net_scope parts.design) pins.0 (sound.no_pins new) in
+      let grows = pins_grow (net_scope parts.profile parts.design) pins.0 (sound.no_pins new) in
       gives_some _ (record {
         no_vias = sound.no_vias;
         no_components = sound.no_components;
         no_pins = never;
-        entries = entries_grow (net_scope parts.design) _ (lists_of parts.design.nets parts.design.special) grows sound.entries;
+        entries = entries_grow (net_scope parts.profile parts.design) _ (lists_of parts.design.nets parts.design.special) grows sound.entries;
       })))
 
   blockages_keep : Keeps (blockages_form parts words)
@@ -165,8 +166,9 @@ module _ (parts : DesignParts) (words : Words) (sound : HasNetParts parts) where
       let few = entries.few in
       let few_wires = entries.few_wires in
       gives_skip (unless parts.has.nets) (λ once.
-      gives_bind (nets_give (net_scope parts.design) false parts.design.special
-      (begins (net_scope parts.design) false parts.design.special (only_others parts.design.nets parts.design.special entries.one_net) (omega arith)
+      gives_bind (nets_give (net_scope parts.profile parts.design) false parts.design.special
+      (begins (net_scope parts.profile parts.design) false parts.design.special (only_others parts.design.nets parts.design.special entries.one_net)
+      (omega arith)
       (omega arith)) words) (λ nets are.
       gives_some _ (record {
         no_vias = sound.no_vias;
@@ -190,8 +192,8 @@ module _ (parts : DesignParts) (words : Words) (sound : HasNetParts parts) where
       let few = entries.few in
       let few_wires = entries.few_wires in
       gives_skip (unless parts.has.special) (λ once.
-      gives_bind (nets_give (net_scope parts.design) true parts.design.nets
-      (begins (net_scope parts.design) true parts.design.nets (only_others parts.design.special parts.design.nets
+      gives_bind (nets_give (net_scope parts.profile parts.design) true parts.design.nets
+      (begins (net_scope parts.profile parts.design) true parts.design.nets (only_others parts.design.special parts.design.nets
       (other_order parts.design.nets parts.design.special entries.one_net)) (omega arith) (omega arith)) words) (λ special are.
       let few_too = are.few in
       let few_wires_too = are.few_wires in
@@ -232,15 +234,15 @@ module _ (parts : DesignParts) (words : Words) (sound : HasNetParts parts) where
       (gives_if (is_at (codes "SPECIALNETS") words) special_keep
       (gives_if (is_at (codes "NETS") words) nets_keep header_keeps)))))
 
-pub no_net_parts : (library : LibraryModel) → HasNetParts (no_parts library)
-no_net_parts library = record {
+pub no_net_parts : (profile : Profile) (library : LibraryModel) → HasNetParts (no_parts profile library)
+no_net_parts profile library = record {
   no_vias = λ new. refl;
   no_components = λ new. refl;
   no_pins = λ new. refl;
   entries = record {
-    nets = All-nil (IsKnownNet (net_scope (no_parts library).design) false);
+    nets = All-nil (IsKnownNet (net_scope profile (no_parts profile library).design) false);
     nets_apart = λ i less. absurd (omega arith);
-    special = All-nil (IsKnownNet (net_scope (no_parts library).design) true);
+    special = All-nil (IsKnownNet (net_scope profile (no_parts profile library).design) true);
     special_apart = λ i less. absurd (omega arith);
     one_net = λ a b t in_a in_b lists_a lists_b. let less = in_a.1 in absurd (omega arith);
     few = omega arith;

@@ -5,12 +5,14 @@ ghost use Rattle.leg_lex.specs.declared.limits.TheConstants.{TEXT_LIMIT, UNITS_L
 ghost use Rattle.leg_lex.specs.declared.read_fault.FaultKind.TheVariants.{Memory};
 ghost use Rattle.leg_lex.specs.Denotes.{Denotes, HasNoWords};
 ghost use Rattle.leg_design_records.specs.Records.{DesignModel};
+ghost use Rattle.leg_grammar.specs.declared.profile.Profile.TheVariants.{Narrow};
 ghost use Rattle.leg_grammar.specs.Def.Header.{units_in};
 ghost use Rattle.leg_grammar.specs.Def.Form.{design_in};
 
 use crate::form::design_words;
 use crate::header::units_anywhere;
 use leg_design_records::Design;
+use leg_grammar::Profile;
 use leg_lex::{Cursor, ReadFault, Words, file_words};
 use leg_lib_records::Library;
 use std::alloc::Allocator;
@@ -64,15 +66,32 @@ impl<'a, A: Allocator + Copy> DefText<'a, A> {
         units_anywhere(&mut Cursor::new(0, &self.words))
     }
 
-    /// The design that the DEF denotes under a library. The words go with it, so that they take no memory any more.
-    pub fn design(self, alloc: A, library: &'a Library<'a, A>) -> Result<Design<'a, A>, ReadFault>
-        ensures found { IfOk result (λ design. Denotes (design_in library.now) self.entry design) }
+    /// The design that the DEF denotes in a profile under a library. The words go with it, so that they take no memory any more.
+    pub fn design_as(
+        self,
+        alloc: A,
+        profile: Profile,
+        library: &'a Library<'a, A>,
+    ) -> Result<Design<'a, A>, ReadFault>
+        ensures found { IfOk result (λ design. Denotes (design_in profile library.now) self.entry design) }
         // The text denotes no other design.
         ensures only { IfOk result (λ design. (said : DesignModel)
-            → Denotes (design_in library.now) self.entry said → said ≡ design) }
+            → Denotes (design_in profile library.now) self.entry said → said ≡ design) }
         ensures none { IfErr result (λ fault. fault.kind ≢ Memory
-            → (said : DesignModel) → ¬ Denotes (design_in library.now) self.entry said) }
+            → (said : DesignModel) → ¬ Denotes (design_in profile library.now) self.entry said) }
     {
-        design_words(alloc, library, &mut Cursor::new(0, &self.words))
+        design_words(alloc, profile, library, &mut Cursor::new(0, &self.words))
+    }
+
+    /// The design that the DEF denotes in the narrow profile: `design_as` of `Profile::Narrow`.
+    pub fn design(self, alloc: A, library: &'a Library<'a, A>) -> Result<Design<'a, A>, ReadFault>
+        ensures found { IfOk result (λ design. Denotes (design_in Narrow library.now) self.entry design) }
+        // The text denotes no other design.
+        ensures only { IfOk result (λ design. (said : DesignModel)
+            → Denotes (design_in Narrow library.now) self.entry said → said ≡ design) }
+        ensures none { IfErr result (λ fault. fault.kind ≢ Memory
+            → (said : DesignModel) → ¬ Denotes (design_in Narrow library.now) self.entry said) }
+    {
+        self.design_as(alloc, Profile::Narrow, library)
     }
 }

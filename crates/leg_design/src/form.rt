@@ -11,6 +11,7 @@ ghost use Rattle.leg_grammar.specs.Def.Form.{header_form, def_form_at, design_in
 use crate::parts::Parts;
 use crate::skipped::past_form;
 use leg_design_records::{Design, DesignFields};
+use leg_grammar::Profile;
 use leg_lex::{Cursor, Names, ReadFault};
 use leg_lib_records::Library;
 use std::alloc::Allocator;
@@ -73,43 +74,46 @@ fn form<'a, A: Allocator + Copy>(
 #[tactic(auto, using(crate::proofs::Forms::forms_end, crate::proofs::Forms::forms_on, crate::proofs::Forms::forms_fail, crate::proofs::FormsShorter::form_shorter))]
 fn forms<'a, A: Allocator + Copy>(
     alloc: A,
+    profile: Profile,
     library: &'a Library<'a, A>,
     words: &mut Cursor<'_, 'a>,
 ) -> Result<Parts<'a, A>, ReadFault>
-    ensures { Reads (λ parts. parts) result words.new (until at_end def_form_at (no_parts library.now) words.old) }
+    ensures { Reads (λ parts. parts) result words.new (until at_end def_form_at (no_parts profile library.now) words.old) }
 {
-    let mut parts = Parts::new(alloc, library);
+    let mut parts = Parts::new(alloc, profile, library);
     'forms: while !words.is_at(b"END") {
         form(alloc, &mut parts, words)?;
     }
     Ok(parts)
 }
 
-/// The fields of the design that the words of a DEF denote under a library, and the names of its entries of `SPECIALNETS`.
+/// The fields of the design that the words of a DEF denote in a profile under a library, and the names of its entries of `SPECIALNETS`.
 #[tactic(auto, unfolding(leg_grammar::specs::Def::Form::design_in))]
 fn design_fields<'a, A: Allocator + Copy>(
     alloc: A,
+    profile: Profile,
     library: &'a Library<'a, A>,
     words: &mut Cursor<'_, 'a>,
 ) -> Result<(DesignFields<'a, A>, Names<'a, A>), ReadFault>
-    ensures design { Means (λ d. d.0) result (design_in library.now words.old) }
+    ensures design { Means (λ d. d.0) result (design_in profile library.now words.old) }
     ensures names { IfOk result (λ d. d.1 ≡ net_names d.0.special) }
 {
-    let parts = forms(alloc, library, words)?;
+    let parts = forms(alloc, profile, library, words)?;
     let end = words.again();
     words.end(b"DESIGN")?;
     words.nothing_more()?;
     parts.design(&end)
 }
 
-/// The design that the words of a DEF denote under a library.
+/// The design that the words of a DEF denote in a profile under a library.
 pub(crate) fn design_words<'a, A: Allocator + Copy>(
     alloc: A,
+    profile: Profile,
     library: &'a Library<'a, A>,
     words: &mut Cursor<'_, 'a>,
 ) -> Result<Design<'a, A>, ReadFault>
-    ensures { Means (λ d. d) result (design_in library.now words.old) }
+    ensures { Means (λ d. d) result (design_in profile library.now words.old) }
 {
-    let (fields, special_names) = design_fields(alloc, library, words)?;
+    let (fields, special_names) = design_fields(alloc, profile, library, words)?;
     Ok(Design::new(fields, special_names))
 }

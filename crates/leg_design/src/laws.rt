@@ -4,10 +4,11 @@ ghost use Rattle.std.specs.Prelude.{◌≡◌, ℕ, List};
 ghost use Rattle.leg_lex.specs.Denotes.{Denotes};
 ghost use Rattle.leg_lib_records.specs.Records.{LibraryModel};
 ghost use Rattle.leg_design_records.specs.Records.{DesignModel};
+ghost use Rattle.leg_grammar.specs.declared.profile.Profile.{Profile};
 ghost use Rattle.leg_grammar.specs.Def.Form.{design_in};
 
-/// Under equal libraries a DEF text denotes at most one design.
+/// Under equal libraries a DEF text denotes at most one design in a profile.
 pub fn text_says_one_design()
-    ensures { (library same : LibraryModel) (text : List ℕ) (a b : DesignModel) → library ≡ same
-        → Denotes (design_in library) text a → Denotes (design_in same) text b → a ≡ b }
+    ensures { (profile : Profile) (library same : LibraryModel) (text : List ℕ) (a b : DesignModel) → library ≡ same
+        → Denotes (design_in profile library) text a → Denotes (design_in profile same) text b → a ≡ b }
 {}

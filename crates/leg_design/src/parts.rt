@@ -17,6 +17,7 @@ use leg_design_floorplan::track::track;
 use leg_design_nets::{NetTable, add_lone_pins};
 use leg_design_records::{Blockage, Component, DesignFields, PART_LIMIT, Pin, Row, Track};
 use leg_geom::Rect;
+use leg_grammar::Profile;
 use leg_lex::{Cursor, Entry, FaultKind, Keyword, Name, NamedList, Names, Need, ReadFault};
 use leg_lib_records::{Library, Via};
 use std::alloc::{AllocError, Allocator};
@@ -34,9 +35,10 @@ struct Appearances {
     special: bool,
 }
 
-/// What the forms before gave. Contracts see it as a design, and which forms have appeared.
+/// What the forms before gave. Contracts see it as a design, which forms have appeared, and the profile in which they are read.
 #[derive(Drop)]
 pub(crate) struct Parts<'a, A: Allocator + Copy> {
+    profile: Profile,
     has: Appearances,
     library: &'a Library<'a, A>,
     name: Option<Name<'a>>,
@@ -61,6 +63,7 @@ impl<'a, A: Allocator + Copy> Model for Parts<'a, A> {
     ghost Value = { DesignParts };
 
     ghost view = { λ p. record {
+      profile = p.profile;
       has = record {
         name = is_some p.name;
         units = p.has.units;
@@ -92,10 +95,11 @@ impl<'a, A: Allocator + Copy> Model for Parts<'a, A> {
 
 impl<'a, A: Allocator + Copy> Parts<'a, A> {
     /// What no forms give.
-    pub(crate) fn new(alloc: A, library: &'a Library<'a, A>) -> Parts<'a, A>
-        ensures { result ≡ no_parts library.now }
+    pub(crate) fn new(alloc: A, profile: Profile, library: &'a Library<'a, A>) -> Parts<'a, A>
+        ensures { result ≡ no_parts profile library.now }
     {
         Parts {
+            profile,
             has: Appearances {
                 units: false,
                 vias: false,

@@ -5,11 +5,13 @@ ghost use Rattle.leg_lex.specs.declared.limits.TheConstants.{TEXT_LIMIT, UNITS_L
 ghost use Rattle.leg_lex.specs.declared.read_fault.FaultKind.TheVariants.{Memory};
 ghost use Rattle.leg_lex.specs.Denotes.{Denotes};
 ghost use Rattle.leg_design_records.specs.Records.{DesignModel};
+ghost use Rattle.leg_grammar.specs.declared.profile.Profile.TheVariants.{Narrow};
 ghost use Rattle.leg_grammar.specs.Def.Header.{units_in};
 ghost use Rattle.leg_grammar.specs.Def.Form.{design_in};
 
 use crate::def_text::DefText;
 use leg_design_records::Design;
+use leg_grammar::Profile;
 use leg_lex::ReadFault;
 use leg_lib_records::Library;
 use std::alloc::Allocator;
@@ -30,23 +32,42 @@ pub fn def_units<A: Allocator + Copy>(alloc: A, text: &[u8]) -> Result<u32, Read
     def.units()
 }
 
-/// The design that a DEF denotes under a library.
+/// The design that a DEF denotes in a profile under a library.
 ///
 /// A fault gives the text's number, 0, and the line of the word at fault.
+pub fn read_def_as<'a, A: Allocator + Copy>(
+    alloc: A,
+    profile: Profile,
+    library: &'a Library<'a, A>,
+    text: &'a [u8],
+) -> Result<Design<'a, A>, ReadFault>
+    ensures found { IfOk result (λ design. Denotes (design_in profile library.now) text.now design) }
+    // The text denotes no other design.
+    ensures only { IfOk result (λ design. (said : DesignModel)
+        → Denotes (design_in profile library.now) text.now said → said ≡ design) }
+    // A text that is too long is never reported as out of memory.
+    ensures too_long { IfErr result (λ fault. TEXT_LIMIT < length text.now → fault.kind ≢ Memory) }
+    ensures none { IfErr result (λ fault. fault.kind ≢ Memory
+        → (said : DesignModel) → ¬ Denotes (design_in profile library.now) text.now said) }
+{
+    let def = DefText::new(alloc, text)?;
+    def.design_as(alloc, profile, library)
+}
+
+/// The design that a DEF denotes in the narrow profile under a library: `read_def_as` of `Profile::Narrow`.
 pub fn read_def<'a, A: Allocator + Copy>(
     alloc: A,
     library: &'a Library<'a, A>,
     text: &'a [u8],
 ) -> Result<Design<'a, A>, ReadFault>
-    ensures found { IfOk result (λ design. Denotes (design_in library.now) text.now design) }
+    ensures found { IfOk result (λ design. Denotes (design_in Narrow library.now) text.now design) }
     // The text denotes no other design.
     ensures only { IfOk result (λ design. (said : DesignModel)
-        → Denotes (design_in library.now) text.now said → said ≡ design) }
+        → Denotes (design_in Narrow library.now) text.now said → said ≡ design) }
     // A text that is too long is never reported as out of memory.
     ensures too_long { IfErr result (λ fault. TEXT_LIMIT < length text.now → fault.kind ≢ Memory) }
     ensures none { IfErr result (λ fault. fault.kind ≢ Memory
-        → (said : DesignModel) → ¬ Denotes (design_in library.now) text.now said) }
+        → (said : DesignModel) → ¬ Denotes (design_in Narrow library.now) text.now said) }
 {
-    let def = DefText::new(alloc, text)?;
-    def.design(alloc, library)
+    read_def_as(alloc, Profile::Narrow, library, text)
 }

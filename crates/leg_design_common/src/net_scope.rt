@@ -1,18 +1,21 @@
-//! What is read before nets, of which they name parts.
+//! The profile in which nets are read, and what is read before them, of which they name parts.
 
 ghost use Rattle.std.specs.Prelude.{◌≡◌};
 ghost use Rattle.std.specs.Option.{option_copied};
 ghost use Rattle.leg_grammar.specs.Def.NetScope.{via_numbered, via_named};
 
 use leg_design_records::{Component, Pin};
+use leg_grammar::Profile;
 use leg_lex::NamedList;
 use leg_lib_records::{Library, Via};
 use std::alloc::Allocator;
 use std::marker::Model;
 
-/// The library, and the vias, components and pins of the design.
+/// The profile in which nets are read, the library, and the vias, components and pins of the design.
 #[derive(Drop)]
 pub struct NetScope<'k, 'a, A: Allocator + Copy> {
+    /// The profile in which nets are read.
+    pub profile: Profile,
     /// The library.
     pub library: &'k Library<'a, A>,
     /// The vias of the section `VIAS`.
@@ -28,7 +31,7 @@ impl<'k, 'a, A: Allocator + Copy> Model for NetScope<'k, 'a, A> {
 
     ghost Value = { NetScopeModel };
 
-    ghost view = { λ k. record { library = k.library.now; vias = k.vias.now; components = k.components.now; pins = k.pins.now } };
+    ghost view = { λ k. record { profile = k.profile; library = k.library.now; vias = k.vias.now; components = k.components.now; pins = k.pins.now } };
 }
 
 impl<'k, 'a, A: Allocator + Copy> NetScope<'k, 'a, A> {

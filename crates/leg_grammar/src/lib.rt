@@ -4,7 +4,9 @@
 mod coordinate;
 mod macro_statements;
 mod path_item;
+mod profile;
 
 pub use coordinate::Coordinate;
 pub use macro_statements::MacroStatements;
 pub use path_item::Item;
+pub use profile::{Masks, Profile, Soft};

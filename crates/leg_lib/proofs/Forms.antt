@@ -8,7 +8,7 @@ use Rattle.leg_lex.proofs.Shorter.{next_below, keyword_below, name_below, end_be
 use Rattle.leg_lex.proofs.Statements.{statement_below}
 use Rattle.leg_lex.proofs.ReadPast.{past_below, past_extension_below}
 use Rattle.leg_lib_records.specs.Records.{RawLibraryModel}
-use Rattle.leg_grammar.specs.Lef.Form.{past_named, past_lef_section, past_statement, past_lef_form, lef_form_at, at_last}
+use Rattle.leg_grammar.specs.Lef.Form.{past_named, past_lef_section, past_statement, past_lef_form, LefParts, library_form_at, lef_form_at, at_last}
 use Rattle.leg_lib.proofs.Layers.{with_layer_below}
 use Rattle.leg_lib.proofs.Vias.{with_via_below}
 use Rattle.leg_lib.proofs.Sites.{with_site_below}
@@ -42,17 +42,21 @@ past_form_below words =
     (below_if (is_at (codes "BEGINEXT") words) (past_extension_below words)
     (past_statement_below words)))))
 
-pub form_shortens : Shortens lef_form_at
-unfolding lef_form_at
-form_shortens library words =
+library_form_below : (library : RawLibraryModel) (words : Words) → Below (length words) (library_form_at library words)
+unfolding library_form_at
+library_form_below library words =
     below_if (is_at (codes "LAYER") words) (with_layer_below library words)
     (below_if (is_at (codes "VIA") words) (with_via_below library words)
     (below_if (is_at (codes "SITE") words) (with_site_below library words)
     (below_if (is_at (codes "MACRO") words) (with_macro_below library words)
     (below_bind (omega arith) (past_form_below words) (λ form less. below_some library form.1 less)))))
 
-pub form_shorter : (library next : RawLibraryModel) (words rest : Words) → lef_form_at library words ≡ Some (next, rest) → length rest < length words
-form_shorter library next words rest said = (form_shortens library words).left next rest said
+pub form_shortens : Shortens lef_form_at
+unfolding lef_form_at
+form_shortens parts words = below_bind (omega arith) (library_form_below parts.library words) (λ form less. below_some _ form.1 less)
+
+pub form_shorter : (parts next : LefParts) (words rest : Words) → lef_form_at parts words ≡ Some (next, rest) → length rest < length words
+form_shorter parts next words rest said = (form_shortens parts words).left next rest said
 
 -- where another form stands
 pub not_last : (words : Words) → (words ≡ [] → ⊥) → is_at (codes "END") words ≡ false → at_last words ≡ false
@@ -68,16 +72,16 @@ last_at_word [] there = refl
 last_at_word (word ∷ words) there = there
 
 -- one more form
-pub forms_on : (library next : RawLibraryModel) (words rest : Words) → lef_form_at library words ≡ Some (next, rest) → at_last words ≡ false
-    → until at_last lef_form_at library words ≡ until at_last lef_form_at next rest
-forms_on library next words rest said more =
-    loops.goes_on at_last lef_form_at form_shortens library next words rest more said
+pub forms_on : (parts next : LefParts) (words rest : Words) → lef_form_at parts words ≡ Some (next, rest) → at_last words ≡ false
+    → until at_last lef_form_at parts words ≡ until at_last lef_form_at next rest
+forms_on parts next words rest said more =
+    loops.goes_on at_last lef_form_at form_shortens parts next words rest more said
 
 -- no more forms
-pub forms_end : (library : RawLibraryModel) (words : Words) → at_last words ≡ true → until at_last lef_form_at library words ≡ Some (library, words)
-forms_end library words stops = loops.ends at_last lef_form_at library words stops
+pub forms_end : (parts : LefParts) (words : Words) → at_last words ≡ true → until at_last lef_form_at parts words ≡ Some (parts, words)
+forms_end parts words stops = loops.ends at_last lef_form_at parts words stops
 
 -- what stands there is no form
-pub forms_fail : (library : RawLibraryModel) (words : Words) → lef_form_at library words ≡ None → at_last words ≡ false
-    → until at_last lef_form_at library words ≡ None
-forms_fail library words said more = loops.fails at_last lef_form_at library words more said
+pub forms_fail : (parts : LefParts) (words : Words) → lef_form_at parts words ≡ None → at_last words ≡ false
+    → until at_last lef_form_at parts words ≡ None
+forms_fail parts words said more = loops.fails at_last lef_form_at parts words more said

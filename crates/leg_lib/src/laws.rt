@@ -2,11 +2,13 @@
 
 ghost use Rattle.std.specs.Prelude.{◌≡◌, ℕ, List};
 ghost use Rattle.leg_lib_records.specs.Records.{RawLibraryModel};
+ghost use Rattle.leg_grammar.specs.declared.profile.Profile.{Profile};
 ghost use Rattle.leg_grammar.specs.Lef.Library.{DenoteLibrary};
 
 pub use leg_lib_records::laws::{good_vias_join_layers, one_library_at_units};
 
-/// LEF texts denote one library at most.
+/// LEF texts denote one library at most in a profile.
 pub fn texts_say_one_library()
-    ensures { (lefs : List (List ℕ)) (a b : RawLibraryModel) → DenoteLibrary lefs a → DenoteLibrary lefs b → a ≡ b }
+    ensures { (profile : Profile) (lefs : List (List ℕ)) (a b : RawLibraryModel)
+        → DenoteLibrary profile lefs a → DenoteLibrary profile lefs b → a ≡ b }
 {}

@@ -1,7 +1,7 @@
 //! LEF libraries: what LEF texts denote, exactly, in millionths of a micron (LEF/DEF 5.8, "LEF Syntax").
 //!
-//! `read_lefs` reads texts and gives a `RawLibrary`, or reports the fault and its line. The records of a library are
-//! those of `leg_lib_records`.
+//! `read_lefs_as` reads texts in a profile and gives a `RawLibrary`, or reports the fault and its line; `read_lefs` reads them in the narrow
+//! profile. The records of a library are those of `leg_lib_records`.
 #![tactic(auto)]
 
 mod first_form;
@@ -20,10 +20,11 @@ mod skipped;
 mod spacing;
 mod via;
 
+pub use leg_grammar::{Masks, Profile, Soft};
 pub use leg_lex::{FaultKind, ReadFault};
 pub use leg_lib_records::{
     Direction, Extent, Items, Layer, LayerKind, LayerUse, Library, Master, MasterPin, RawExtent,
     RawKind, RawLayer, RawLibrary, RawMaster, RawPin, RawPoint, RawRect, RawShape, RawSite, RawVia,
     ScaleFault, ScaleKind, Shape, Site, Supply, Via, ViaPart, is_wiring_word,
 };
-pub use read::{file_number, read_lefs};
+pub use read::{file_number, read_lefs, read_lefs_as};

@@ -19,6 +19,7 @@ use Rattle.leg_design_records.specs.Wires.{default_extension}
 use Rattle.leg_design_records.specs.Records.{DesignModel}
 use Rattle.leg_design_records.specs.WellFormedParts.{IsPosition, IsDesignVia, AreVias}
 use Rattle.leg_design_records.specs.WellFormedNets.{IsSegment, IsWire}
+use Rattle.leg_grammar.specs.declared.profile.Profile.TheVariants.{Narrow}
 use Rattle.leg_grammar.specs.Def.NetScope.{via_named}
 use Rattle.leg_grammar.specs.Def.PathItem.{at_path_end}
 use Rattle.leg_grammar.specs.Def.Wiring.{path_at}
@@ -45,7 +46,7 @@ either_list (y ∷ xs) ys (suc i) x is = by (either_list xs ys i x is) where
 -- What is known of a good via that wires name.
 record IsNamedVia (design : DesignModel) (number : ℕ) (via : ViaModel) : Type 0 where
   name : is_name via.name ≡ true
-  there : via_named (net_scope design) via.name ≡ Some number
+  there : via_named (net_scope Narrow design) via.name ≡ Some number
   good : is_good_via design.library via.name via.shapes ≡ true
 
 free_word : (wiring rest : Bool) → (not wiring && rest) ≡ true → wiring ≡ false
@@ -85,15 +86,15 @@ module _ (design : DesignModel) (sound : IsSound design.library) (vias : AreVias
   -- the words of a segment
   segment_again : (special : Bool) (layer : ℕ) (from to : PointModel) (width ext_from ext_to : ℤ)
       → IsSegment design.library special layer from to width ext_from ext_to → (rest : Words) → at_path_end rest ≡ true
-      → path_at (net_scope design) special (segment_words design special layer from to width ext_from ext_to ++ rest) ≡ Some
+      → path_at (net_scope Narrow design) special (segment_words design special layer from to width ext_from ext_to ++ rest) ≡ Some
       (Segment layer from to width ext_from ext_to ∷ [], rest)
   segment_again special layer from to width ext_from ext_to is rest ends =
       let first = given_extension design.library special layer ext_from in
       let next = given_extension design.library special layer ext_to in
-      ap (λ words. path_at (net_scope design) special (layer_name design layer ∷ words))
+      ap (λ words. path_at (net_scope Narrow design) special (layer_name design layer ∷ words))
       (append_assoc (width_words special width ++ point_words from first) (point_words to next) rest
       ∙ append_assoc (width_words special width) (point_words from first) (point_words to next ++ rest))
-      ∙ segment_path (net_scope design) special layer (layer_name design layer)
+      ∙ segment_path (net_scope Narrow design) special layer (layer_name design layer)
       (path_layer layer is.routes) from to width is.from_ is.to_ is.straight is.long is.width_ first next rest
       (given_is design.library special layer ext_from is.from_extension) (given_is design.library special layer ext_to is.to_extension) ends
       ∙ ap (λ e. Some (Segment layer from to width e (unwrap_or next (default_extension design.library (written_as special width) layer)) ∷ [], rest))
@@ -103,33 +104,34 @@ module _ (design : DesignModel) (sound : IsSound design.library) (vias : AreVias
   -- the words of a via
   via_again : (special : Bool) (number : ℕ) (at : PointModel) (via : ViaModel) → IsPosition at → design_via design number ≡ Some via → via.good ≡ true
       → (rest : Words) → at_path_end rest ≡ true → is_at (codes "N") rest ≡ false
-      → path_at (net_scope design) special (via_wire_words design special number at ++ rest) ≡ Some (ViaAt number at ∷ [], rest)
+      → path_at (net_scope Narrow design) special (via_wire_words design special number at ++ rest) ≡ Some (ViaAt number at ∷ [], rest)
   via_again special number at via is there good rest ends no_north =
       let known = via_known number via there good in
       let two = good_joins design.library via.shapes via.name known.good in
-      let other = across_good (net_scope design) number via two.0 two.1 there good two.2 in
+      let other = across_good (net_scope Narrow design) number via two.0 two.1 there good two.2 in
       let lower : lower_layer_of_via design number ≡ two.0 = rw there (lowest_is two.0 via.shapes two.2.on_low two.2.each) in
       let named : via_name design number ≡ via.name = rw there refl in
-      ap (λ words. path_at (net_scope design) special (layer_name design (lower_layer_of_via design number) ∷ words))
+      ap (λ words. path_at (net_scope Narrow design) special (layer_name design (lower_layer_of_via design number) ∷ words))
       (append_assoc (width_words special (pos 0) ++ point_words at None) (via_name design number ∷ []) rest
       ∙ append_assoc (width_words special (pos 0)) (point_words at None) (via_name design number ∷ rest))
-      ∙ ap (λ layer. path_at (net_scope design) special
+      ∙ ap (λ layer. path_at (net_scope Narrow design) special
       (layer_name design layer ∷ (width_words special (pos 0) ++ (point_words at None ++ (via_name design number ∷ rest))))) lower
-      ∙ ap (λ word. path_at (net_scope design) special (layer_name design two.0 ∷ (width_words special (pos 0) ++ (point_words at None ++ (word ∷ rest)))))
+      ∙ ap (λ word. path_at (net_scope Narrow design) special (layer_name design two.0 ∷
+      (width_words special (pos 0) ++ (point_words at None ++ (word ∷ rest)))))
       named
-      ∙ via_path (net_scope design) special two.0 (layer_name design two.0) (path_layer two.0 two.2.low_routes) at number other.0 via.name rest is
+      ∙ via_path (net_scope Narrow design) special two.0 (layer_name design two.0) (path_layer two.0 two.2.low_routes) at number other.0 via.name rest is
       (record { named = known.name; free = no_wiring_word design.library via known.good; there = known.there; leads = other.1 }) ends no_north
 
   -- the words of any wire
   pub wire_again : (special : Bool) (wire : Wire) → IsWire design.library design.vias special wire → (rest : Words) → at_path_end rest ≡ true
       → is_at (codes "N") rest ≡ false
-      → path_at (net_scope design) special (wire_words design special wire ++ rest) ≡ Some (wire ∷ [], rest)
+      → path_at (net_scope Narrow design) special (wire_words design special wire ++ rest) ≡ Some (wire ∷ [], rest)
   wire_again special (Segment layer from to width ext_from ext_to) is rest ends no_north =
       segment_again special layer from to width ext_from ext_to is rest ends
   wire_again special (ViaAt number at) is rest ends no_north = via_again special number at is.1.0 is.0 is.1.1 is.1.2 rest ends no_north
   wire_again special (Patch layer at rect) is rest ends no_north =
-      subst (λ kind. path_at (net_scope design) kind (patch_words design layer at rect ++ rest) ≡ Some (Patch layer at rect ∷ [], rest)) (sym is.0)
-      (patch_path (net_scope design) layer (layer_name design layer) at rect rest (path_layer layer is.1) is.2 is.3 ends)
+      subst (λ kind. path_at (net_scope Narrow design) kind (patch_words design layer at rect ++ rest) ≡ Some (Patch layer at rect ∷ [], rest)) (sym is.0)
+      (patch_path (net_scope Narrow design) layer (layer_name design layer) at rect rest (path_layer layer is.1) is.2 is.3 ends)
 
   -- the names that a via is printed with
   pub lower_named : (number : ℕ) (via : ViaModel) → design_via design number ≡ Some via → via.good ≡ true

@@ -8,6 +8,7 @@ use Rattle.leg_design_records.specs.declared.records.Component.{Component}
 use Rattle.leg_design_records.specs.Records.{DesignModel, PinModel, BlockageModel, NetModel, design_via_names, component_names, pin_names}
 use Rattle.leg_design_records.specs.WellFormedParts.{IsDesignVia, IsComponent, IsPin, IsBlockage}
 use Rattle.leg_design_records.specs.WellFormed.{IsWellFormed}
+use Rattle.leg_grammar.specs.declared.profile.Profile.TheVariants.{Narrow}
 use Rattle.leg_grammar.specs.Def.Via.{via_entry}
 use Rattle.leg_grammar.specs.Def.Component.{component_entry}
 use Rattle.leg_grammar.specs.Def.Pin.{pin_entry}
@@ -63,9 +64,9 @@ module _ (design : DesignModel) (sound : IsSound design.library) (well : IsWellF
   has = record { sound = sound; vias = well.vias; components = well.components; pins = well.pins }
 
   pub net_said : (before after : List NetModel) (net : NetModel) → design.nets ≡ before ++ (net ∷ after) → StayOne (net_entry_names design net)
-      → DenotesForm (net_entry (net_scope design) false design.special before) (net_text design false net) (before ++ net ∷ [])
+      → DenotesForm (net_entry (net_scope Narrow design) false design.special before) (net_text design false net) (before ++ net ∷ [])
   net_said before after net is one = one_net_line design has false design.nets design.special (nets_are design has well.nets) before net after is one
 
   pub special_said : (before after : List NetModel) (net : NetModel) → design.special ≡ before ++ (net ∷ after) → StayOne (net_entry_names design net)
-      → DenotesForm (net_entry (net_scope design) true [] before) (net_text design true net) (before ++ net ∷ [])
+      → DenotesForm (net_entry (net_scope Narrow design) true [] before) (net_text design true net) (before ++ net ∷ [])
   special_said before after net is one = one_net_line design has true design.special [] (special_are design has well.nets) before net after is one

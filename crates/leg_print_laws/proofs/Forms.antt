@@ -14,6 +14,7 @@ use Rattle.leg_design_records.specs.declared.records.Row.{Row}
 use Rattle.leg_design_records.specs.Records.{DesignModel, TrackModel}
 use Rattle.leg_design_records.specs.WellFormedParts.{IsKept, IsArea, IsRow, IsTrack}
 use Rattle.leg_design_records.proofs.SameTerminal.{number_itself}
+use Rattle.leg_grammar.specs.declared.profile.Profile.TheVariants.{Narrow}
 use Rattle.leg_grammar.specs.Def.Parts.{DesignParts, no_die, no_parts, divider_form, bus_form, name_form, units_form, die_form, row_form, track_form}
 use Rattle.leg_grammar.specs.Def.SkippedForms.{past_def_form}
 use Rattle.leg_grammar.specs.Def.Form.{header_form, def_form_at}
@@ -37,26 +38,28 @@ kept_line_words keyword (Some word) = word_words keyword word
 -- what the forms of the header gave
 abbrev header_parts : LibraryModel → Bool → Bool → Bool → Option (List ℕ) → Option (List ℕ) → List ℕ → RectModel → DesignParts
 header_parts library named with_units with_die divider bus name die = record {
-  has = record ((no_parts library).has) { name = named; units = with_units; die = with_die };
-  design = record ((no_parts library).design) { divider = divider; bus = bus; name = name; die = die };
+  profile = Narrow;
+  has = record ((no_parts Narrow library).has) { name = named; units = with_units; die = with_die };
+  design = record ((no_parts Narrow library).design) { divider = divider; bus = bus; name = name; die = die };
 }
 
 module _ (library : LibraryModel) where
-  version_leads : Leads (no_parts library) version_words (no_parts library)
+  version_leads : Leads (no_parts Narrow library) version_words (no_parts Narrow library)
   unfolding def_form_at header_form past_def_form statement_at up_to
-  version_leads = leads_form (no_parts library) version_words (no_parts library) (omega arith) (λ rest. refl) read where
-    read : (rest : Words) → def_form_at (no_parts library) (version_words ++ rest) ≡ Some (no_parts library, rest)
+  version_leads = leads_form (no_parts Narrow library) version_words (no_parts Narrow library) (omega arith) (λ rest. refl) read where
+    read : (rest : Words) → def_form_at (no_parts Narrow library) (version_words ++ rest) ≡ Some (no_parts Narrow library, rest)
     read rest = refl
 
   -- what was kept before the name
   abbrev kept : Option (List ℕ) → Option (List ℕ) → DesignParts
   kept divider bus = header_parts library false false false divider bus [] no_die
 
-  divider_leads : (divider : Option (List ℕ)) → IsKept divider → Leads (no_parts library) (kept_line_words (codes "DIVIDERCHAR") divider) (kept divider None)
+  divider_leads : (divider : Option (List ℕ)) → IsKept divider
+      → Leads (no_parts Narrow library) (kept_line_words (codes "DIVIDERCHAR") divider) (kept divider None)
   unfolding def_form_at header_form divider_form
-  divider_leads None is = leads_nil (no_parts library)
-  divider_leads (Some word) is = leads_form (no_parts library) (word_words (codes "DIVIDERCHAR") word) _ (omega arith) (λ rest. refl) read where
-    read : (rest : Words) → def_form_at (no_parts library) (word_words (codes "DIVIDERCHAR") word ++ rest) ≡ Some (kept (Some word) None, rest)
+  divider_leads None is = leads_nil (no_parts Narrow library)
+  divider_leads (Some word) is = leads_form (no_parts Narrow library) (word_words (codes "DIVIDERCHAR") word) _ (omega arith) (λ rest. refl) read where
+    read : (rest : Words) → def_form_at (no_parts Narrow library) (word_words (codes "DIVIDERCHAR") word ++ rest) ≡ Some (kept (Some word) None, rest)
     read rest = rw (word_again (codes "DIVIDERCHAR") word rest refl is) refl
 
   bus_leads : (divider bus : Option (List ℕ)) → IsKept bus → Leads (kept divider None) (kept_line_words (codes "BUSBITCHARS") bus) (kept divider bus)
@@ -95,7 +98,7 @@ module _ (library : LibraryModel) where
 
 pub header_leads : (design : DesignModel) → IsSound design.library → IsTrue (is_name design.name) → IsKept design.divider → IsKept design.bus
     → IsArea design.die
-    → Leads (no_parts design.library)
+    → Leads (no_parts Narrow design.library)
     ((version_words ++ kept_line_words (codes "DIVIDERCHAR") design.divider ++ kept_line_words (codes "BUSBITCHARS") design.bus)
     ++ (word_words (codes "DESIGN") design.name ++ units_words design.library.units ++ die_words design.die))
     (header_parts design.library true true true design.divider design.bus design.name design.die)

@@ -19,6 +19,7 @@ use Rattle.leg_design_records.specs.declared.records.Wire.{Wire}
 use Rattle.leg_design_records.specs.Records.{DesignModel, NetModel, net_names, terminal_count, wire_count}
 use Rattle.leg_design_records.specs.WellFormedParts.{IsKept, AreVias, AreComponents, ArePins}
 use Rattle.leg_design_records.specs.WellFormedNets.{IsWire, IsNet, AreNets, AreInOneNet}
+use Rattle.leg_grammar.specs.declared.profile.Profile.TheVariants.{Narrow}
 use Rattle.leg_grammar.specs.Def.Guard.{is_over}
 use Rattle.leg_grammar.specs.Def.Terminal.{at_no_terminal}
 use Rattle.leg_grammar.specs.Def.Net.{NetParts, no_net_parts, use_clause, wiring_clause, clause_at, net_clause, net_name_at, net_in, are_too_many, net_entry, nets_at}
@@ -60,7 +61,7 @@ module _ (design : DesignModel) (has : HasParts design) (special : Bool) where
   no_more_terminals (Some word) wires = refl
 
   clauses_again : (usage : Option (List ℕ)) (wires : List Wire) → IsKept usage → All (IsWire design.library design.vias special) wires
-      → until is_over (net_clause (net_scope design) special) no_net_parts (clauses usage wires) ≡ Some (parts_of usage wires, [])
+      → until is_over (net_clause (net_scope Narrow design) special) no_net_parts (clauses usage wires) ≡ Some (parts_of usage wires, [])
   unfolding steps net_clause clause_at use_clause wiring_clause keyword_at mark_at word_at next_at
   clauses_again None [] kept each = refl
   clauses_again None (wire ∷ wires) kept each = rw (wiring_again design has.sound has.vias special wire wires each) refl
@@ -70,7 +71,7 @@ module _ (design : DesignModel) (has : HasParts design) (special : Bool) where
   module _ (net : NetModel) (is : IsNet design special net) where
     net_in_again : (nets others : List NetModel) → place_of net.name (net_names nets) ≡ None
         → ((other : NetModel) (t : Terminal) → Contains (nets ++ others) other → Contains other.terminals t → Contains net.terminals t → other.name ≡ net.name)
-        → net_in (net_scope design) special others nets (net_said design special net) ≡ Some net
+        → net_in (net_scope Narrow design) special others nets (net_said design special net) ≡ Some net
     unfolding net_in net_name_at mark_at name_at next_at
     net_in_again nets others new own =
         let terminals = flat_map (terminal_words design) net.terminals in
@@ -128,7 +129,7 @@ module _ (design : DesignModel) (has : HasParts design) (special : Bool) where
           → ((other : NetModel) (t : Terminal) → Contains (nets ++ others) other → Contains other.terminals t → Contains net.terminals t
           → other.name ≡ net.name)
           → are_too_many others (nets ++ net ∷ []) ≡ false
-          → (rest : Words) → net_entry (net_scope design) special others nets (net_words design special net ++ rest) ≡ Some (nets ++ net ∷ [], rest)
+          → (rest : Words) → net_entry (net_scope Narrow design) special others nets (net_words design special net ++ rest) ≡ Some (nets ++ net ∷ [], rest)
       unfolding net_entry
       net_again nets others few new own fits rest =
           rw (
@@ -198,9 +199,9 @@ module _ (design : DesignModel) (has : HasParts design) (special : Bool) (nets o
 
   -- an entry among the others
   pub one_net_line : (before : List NetModel) (net : NetModel) (after : List NetModel) → nets ≡ before ++ (net ∷ after) → StayOne (net_entry_names design net)
-      → DenotesForm (net_entry (net_scope design) special others before) (net_text design special net) (before ++ net ∷ [])
+      → DenotesForm (net_entry (net_scope Narrow design) special others before) (net_text design special net) (before ++ net ∷ [])
   one_net_line before net after is stays =
-      lines_say (net_entry (net_scope design) special others before) (net_text design special net) (net_words design special net) (before ++ net ∷ [])
+      lines_say (net_entry (net_scope Narrow design) special others before) (net_text design special net) (net_words design special net) (before ++ net ∷ [])
       (net_lines design has special net (middle (IsNet design special) nets before net after is entries.are.each) stays)
       (net_again design has special net (middle (IsNet design special) nets before net after is entries.are.each) stays before others
       (omega (arith, fewer_before nets before net after is, entries.few))
@@ -209,7 +210,7 @@ module _ (design : DesignModel) (has : HasParts design) (special : Bool) (nets o
 
   module _ (one : StayOne (flat_map (net_entry_names design) nets)) where
     entry_again : (before : List NetModel) (net : NetModel) (after : List NetModel) → nets ≡ before ++ (net ∷ after) → (rest : Words)
-        → net_entry (net_scope design) special others before (net_words design special net ++ rest) ≡ Some (before ++ net ∷ [], rest)
+        → net_entry (net_scope Narrow design) special others before (net_words design special net ++ rest) ≡ Some (before ++ net ∷ [], rest)
     entry_again before net after is =
         net_again design has special net (middle (IsNet design special) nets before net after is entries.are.each)
         (middle (λ n. StayOne (net_entry_names design n)) nets before net after is (each_passes stays_one (net_entry_names design) nets one)) before others
@@ -233,15 +234,16 @@ net_goes design special net rest = refl
 pub nets_again : (design : DesignModel) → HasParts design → (special : Bool) (net : NetModel) (nets others : List NetModel)
     → AreEntries design special (net ∷ nets) others
     → StayOne (flat_map (net_entry_names design) (net ∷ nets)) → (rest : Words)
-    → nets_at (net_scope design) special others (section_words (net_section special) (net_words design special) (net ∷ nets) ++ rest) ≡ Some (net ∷ nets, rest)
+    → nets_at (net_scope Narrow design) special others (section_words (net_section special) (net_words design special) (net ∷ nets) ++ rest) ≡ Some
+    (net ∷ nets, rest)
 unfolding nets_at
 nets_again design has false net nets others entries one rest =
-    section_again (codes "NETS") (net_entry (net_scope design) false others) (net_words design false) (λ entries. entries) refl
-    (net_entry_shortens (net_scope design) false others) net nets
+    section_again (codes "NETS") (net_entry (net_scope Narrow design) false others) (net_words design false) (λ entries. entries) refl
+    (net_entry_shortens (net_scope Narrow design) false others) net nets
     (few_nets design has false (net ∷ nets) others entries)
     (record { goes = net_goes design false; read = entry_again design has false (net ∷ nets) others entries one }) rest
 nets_again design has true net nets others entries one rest =
-    section_again (codes "SPECIALNETS") (net_entry (net_scope design) true others) (net_words design true) (λ entries. entries) refl
-    (net_entry_shortens (net_scope design) true others) net nets
+    section_again (codes "SPECIALNETS") (net_entry (net_scope Narrow design) true others) (net_words design true) (λ entries. entries) refl
+    (net_entry_shortens (net_scope Narrow design) true others) net nets
     (few_nets design has true (net ∷ nets) others entries)
     (record { goes = net_goes design true; read = entry_again design has true (net ∷ nets) others entries one }) rest

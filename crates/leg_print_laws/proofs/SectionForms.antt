@@ -10,6 +10,7 @@ use Rattle.leg_design_records.specs.declared.records.Component.{Component}
 use Rattle.leg_design_records.specs.Records.{DesignModel, PinModel, BlockageModel, NetModel, terminal_count}
 use Rattle.leg_design_records.specs.WellFormedParts.{AreComponents, AreVias, ArePins, AreBlockages}
 use Rattle.leg_design_records.specs.WellFormedNets.{IsInSomeNet, HasNets}
+use Rattle.leg_grammar.specs.declared.profile.Profile.TheVariants.{Narrow}
 use Rattle.leg_grammar.specs.Def.Parts.{Appearances, DesignParts, vias_form, components_form, pins_form, blockages_form, nets_form, special_form}
 use Rattle.leg_grammar.specs.Def.Form.{def_form_at, design_of}
 use Rattle.leg_output.specs.Text.Vias.{via_words}
@@ -52,6 +53,7 @@ appearances vias components pins blockages special nets = record {
 abbrev pub said_parts : DesignModel → Appearances → List ViaModel → List Component → List PinModel → List BlockageModel → List NetModel → List NetModel
     → DesignParts
 said_parts design forms vias components pins blockages special nets = record {
+  profile = Narrow;
   has = forms;
   design = record design { vias = vias; components = components; pins = pins; blockages = blockages; nets = nets; special = special };
 }

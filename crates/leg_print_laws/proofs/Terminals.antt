@@ -22,6 +22,7 @@ use Rattle.leg_design_records.specs.Records.{DesignModel, NetModel, PinModel}
 use Rattle.leg_design_records.specs.WellFormedParts.{IsComponent, AreComponents, IsPin, ArePins}
 use Rattle.leg_design_records.specs.WellFormedNets.{IsTerminal}
 use Rattle.leg_design_records.proofs.SameTerminal.{passes_from, among_contains}
+use Rattle.leg_grammar.specs.declared.profile.Profile.TheVariants.{Narrow}
 use Rattle.leg_grammar.specs.Def.Terminal.{one_terminal_at, past_synthesized, terminals_at, is_of_other_net, add_terminal, terminal_form, at_no_terminal}
 use Rattle.leg_grammar.specs.Def.Parts.{net_scope}
 use Rattle.leg_design_nets.proofs.NetEntries.{terminal_form_shortens}
@@ -56,7 +57,7 @@ pin_names_are design c k is =
 module _ (design : DesignModel) (sound : IsSound design.library) (components : AreComponents design.library design.components)
     (pins : ArePins design.library design.pins) where
   comp_again : (special : Bool) (c k : ℕ) (rest : Words) → ArePinNames design c k
-      → terminals_at (net_scope design) special (terminal_words design (Comp c k) ++ rest) ≡ Some (Comp c k ∷ [], rest)
+      → terminals_at (net_scope Narrow design) special (terminal_words design (Comp c k) ++ rest) ≡ Some (Comp c k ∷ [], rest)
   unfolding terminals_at one_terminal_at past_synthesized mark_at name_at next_at
   comp_again special c k rest are =
       let one : IsComponent design.library are.component =
@@ -78,7 +79,7 @@ module _ (design : DesignModel) (sound : IsSound design.library) (components : A
       ) refl
 
   pin_again : (special : Bool) (p : ℕ) (pin : PinModel) (rest : Words) → slice_get design.pins p ≡ Some pin
-      → terminals_at (net_scope design) special (terminal_words design (Pin p) ++ rest) ≡ Some (Pin p ∷ [], rest)
+      → terminals_at (net_scope Narrow design) special (terminal_words design (Pin p) ++ rest) ≡ Some (Pin p ∷ [], rest)
   unfolding terminals_at one_terminal_at past_synthesized mark_at name_at next_at
   pin_again special p pin rest is =
       rw (
@@ -89,7 +90,7 @@ module _ (design : DesignModel) (sound : IsSound design.library) (components : A
       ) refl
 
   pub terminal_again : (special : Bool) (terminal : Terminal) (rest : Words) → IsTerminal design terminal
-      → terminals_at (net_scope design) special (terminal_words design terminal ++ rest) ≡ Some (terminal ∷ [], rest)
+      → terminals_at (net_scope Narrow design) special (terminal_words design terminal ++ rest) ≡ Some (terminal ∷ [], rest)
   terminal_again special (Comp c k) rest is = comp_again special c k rest (pin_names_are design c k is)
   terminal_again special (Pin p) rest is = let pin = there_is design.pins p is in pin_again special p pin.0 rest pin.1
 
@@ -144,17 +145,17 @@ module _ (design : DesignModel) (sound : IsSound design.library) (components : A
     (pins : ArePins design.library design.pins)
     (special : Bool) (name : List ℕ) (nets : List NetModel) where
   form_again : (before : List Terminal) (t : Terminal) (rest : Words) → IsTerminal design t → is_among t before ≡ false → is_of_other_net name t nets ≡ false
-      → terminal_form (net_scope design) special name nets before (terminal_words design t ++ rest) ≡ Some (before ++ t ∷ [], rest)
+      → terminal_form (net_scope Narrow design) special name nets before (terminal_words design t ++ rest) ≡ Some (before ++ t ∷ [], rest)
   unfolding terminal_form over add_terminal
   form_again before t rest is new own = rw (terminal_again design sound components pins special t rest is, own, new) refl
 
   pub terminals_again : (terminals : List Terminal) (last : Words) → All (IsTerminal design) terminals → AllPairs (λ t u. t ≢ u) terminals
       → ((net : NetModel) (t : Terminal) → Contains nets net → Contains net.terminals t → Contains terminals t → net.name ≡ name) → at_no_terminal last ≡ true
-      → until at_no_terminal (terminal_form (net_scope design) special name nets) [] (flat_map (terminal_words design) terminals ++ last) ≡ Some
+      → until at_no_terminal (terminal_form (net_scope Narrow design) special name nets) [] (flat_map (terminal_words design) terminals ++ last) ≡ Some
       (terminals, last)
   terminals_again terminals last each once own ends =
-      all_again at_no_terminal (terminal_form (net_scope design) special name nets) (terminal_words design) (λ ts. ts) last
-      (terminal_form_shortens (net_scope design) special name nets) ends [] terminals
+      all_again at_no_terminal (terminal_form (net_scope Narrow design) special name nets) (terminal_words design) (λ ts. ts) last
+      (terminal_form_shortens (net_scope Narrow design) special name nets) ends [] terminals
       (λ before t after is. record {
         goes = refl;
         read = form_again before t _ (middle (IsTerminal design) terminals before t after is each)

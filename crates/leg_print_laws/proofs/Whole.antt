@@ -16,6 +16,7 @@ use Rattle.leg_lib_records.specs.Sound.{IsSound}
 use Rattle.leg_design_records.specs.Records.{DesignModel}
 use Rattle.leg_design_records.specs.WellFormedParts.{IsKept}
 use Rattle.leg_design_records.specs.WellFormed.{IsWellFormed}
+use Rattle.leg_grammar.specs.declared.profile.Profile.TheVariants.{Narrow}
 use Rattle.leg_grammar.specs.Def.Header.{microns_at, units_in}
 use Rattle.leg_grammar.specs.Def.Parts.{no_parts}
 use Rattle.leg_grammar.specs.Def.Form.{design_in}
@@ -200,7 +201,7 @@ module _ (design : DesignModel) (sound : IsSound design.library) (well : IsWellF
       (nets_lines design has false design.nets design.special (nets_are design has well.nets) one.nets))
       (lines_of_words (end_words (codes "DESIGN")) refl)
 
-  forms_lead : Leads (no_parts design.library) (forms_words design)
+  forms_lead : Leads (no_parts Narrow design.library) (forms_words design)
       (said_parts design (appearances (has_some design.vias) (has_some design.components) (has_some design.pins) (has_some design.blockages)
       (has_some design.special) (has_some design.nets))
       design.vias design.components design.pins design.blockages design.special design.nets)
@@ -219,11 +220,11 @@ module _ (design : DesignModel) (sound : IsSound design.library) (well : IsWellF
       (nets_lead design has (has_some design.vias) (has_some design.components) (has_some design.pins) (has_some design.blockages)
       (has_some design.special) design.special design.nets (nets_are design has well.nets) one.nets)
 
-  whole_again : design_in design.library (whole_words design) ≡ Some design
+  whole_again : design_in Narrow design.library (whole_words design) ≡ Some design
   unfolding design_in end_at keyword_at nothing_at next_at
   whole_again =
       rw (
-        leads_all (no_parts design.library) _ (forms_words design) (end_words (codes "DESIGN")) forms_lead refl,
+        leads_all (no_parts Narrow design.library) _ (forms_words design) (end_words (codes "DESIGN")) forms_lead refl,
         design_said design (has_some design.vias) (has_some design.components) (has_some design.pins) (has_some design.blockages) (has_some design.special)
             (has_some design.nets) well.nets,
       ) refl
@@ -231,7 +232,7 @@ module _ (design : DesignModel) (sound : IsSound design.library) (well : IsWellF
 -- The text says the design.
 pub text_says : (design : DesignModel) → IsSound design.library → IsWellFormed design → StayOne (printed_names design)
     → length (design_text design) ≤ TEXT_LIMIT
-    → Denotes (design_in design.library) (design_text design) design
+    → Denotes (design_in Narrow design.library) (design_text design) design
 text_says design sound well one fits =
     let each = all_stay_one design one in
     let few = few_vias design fits in
@@ -239,18 +240,18 @@ text_says design sound well one fits =
       fits = fits;
       words = found.0;
       tokens = found.1;
-      reads = ap (design_in design.library) found.2 ∙ whole_again design sound well each few;
+      reads = ap (design_in Narrow design.library) found.2 ∙ whole_again design sound well each few;
     }
 
 -- So do its words, however long it is, if the count of its vias is a number.
 pub words_say : (design : DesignModel) → IsSound design.library → IsWellFormed design → StayOne (printed_names design) → length design.vias ≤ NUMBER_LIMIT
-    → WordsDenote (design_in design.library) (design_text design) design
+    → WordsDenote (design_in Narrow design.library) (design_text design) design
 words_say design sound well one few =
     let each = all_stay_one design one in
     let found = lines_are_text (design_text design) (whole_words design) (whole_lines design sound well each few) in record {
       tokens = found.0;
       are = found.1;
-      reads = ap (design_in design.library) found.2 ∙ whole_again design sound well each few;
+      reads = ap (design_in Narrow design.library) found.2 ∙ whole_again design sound well each few;
     }
 
 -- UNITS DISTANCE MICRONS stand in a row only where the units are said.
@@ -347,9 +348,9 @@ text_says_units design sound well one fits =
 pub text_says_only : (design other : DesignModel) → IsSound design.library → IsWellFormed design → StayOne (printed_names design)
     → length (design_text design) ≤ TEXT_LIMIT
     → ((p q : List (List ℕ)) → Cut p (design_text design) → Cut q (design_text design) → p ≡ q)
-    → Denotes (design_in design.library) (design_text design) other → other ≡ design
+    → Denotes (design_in Narrow design.library) (design_text design) other → other ≡ design
 text_says_only design other sound well one fits cut says =
     let each = all_stay_one design one in
     let few = few_vias design fits in
     let words = lines_have_only (design_text design) (whole_words design) cut (whole_lines design sound well each few) says.words says.tokens in
-    same_Some other design (sym says.reads ∙ ap (design_in design.library) words ∙ whole_again design sound well each few)
+    same_Some other design (sym says.reads ∙ ap (design_in Narrow design.library) words ∙ whole_again design sound well each few)

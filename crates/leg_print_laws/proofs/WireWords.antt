@@ -16,6 +16,7 @@ use Rattle.leg_design_records.specs.declared.records.Wire.TheVariants.{Segment, 
 use Rattle.leg_design_records.specs.Records.{DesignModel}
 use Rattle.leg_design_records.specs.WellFormedParts.{IsPosition, AreVias}
 use Rattle.leg_design_records.specs.WellFormedNets.{IsWireWidth, IsWire}
+use Rattle.leg_grammar.specs.declared.profile.Profile.TheVariants.{Narrow}
 use Rattle.leg_grammar.specs.Def.PathItem.{at_path_end}
 use Rattle.leg_grammar.specs.Def.Wiring.{at_no_new, new_path, paths_at, wiring_start, wiring_at}
 use Rattle.leg_grammar.specs.Def.Parts.{net_scope}
@@ -99,7 +100,7 @@ module _ (design : DesignModel) (sound : IsSound design.library) (vias : AreVias
     no_north (wire ∷ wires) = refl
 
     more_again : (front : List Wire) (wire : Wire) (back : List Wire) → IsWire design.library design.vias special wire
-        → new_path (net_scope design) special front (more_words wire ++ (flat_map more_words back ++ [])) ≡ Some
+        → new_path (net_scope Narrow design) special front (more_words wire ++ (flat_map more_words back ++ [])) ≡ Some
         (front ++ wire ∷ [], flat_map more_words back ++ [])
     unfolding new_path keyword_at next_at
     more_again front wire back is = rw (wire_again design sound vias special wire is (flat_map more_words back ++ []) (ends_path back) (no_north back)) refl
@@ -108,15 +109,15 @@ module _ (design : DesignModel) (sound : IsSound design.library) (vias : AreVias
     some_word wire = omega arith
 
     more_wires : (wire : Wire) (wires : List Wire) → All (IsWire design.library design.vias special) wires
-        → until at_no_new (new_path (net_scope design) special) (wire ∷ []) (flat_map more_words wires ++ []) ≡ Some (wire ∷ wires, [])
+        → until at_no_new (new_path (net_scope Narrow design) special) (wire ∷ []) (flat_map more_words wires ++ []) ≡ Some (wire ∷ wires, [])
     more_wires wire wires each =
-        some_again at_no_new (new_path (net_scope design) special) more_words (λ ws. wire ∷ ws) [] some_word refl wires (λ before w after is. record {
+        some_again at_no_new (new_path (net_scope Narrow design) special) more_words (λ ws. wire ∷ ws) [] some_word refl wires (λ before w after is. record {
           goes = refl;
           read = more_again (wire ∷ before) w after (middle (IsWire design.library design.vias special) wires before w after is each);
         })
 
     pub wiring_again : (wire : Wire) (wires : List Wire) → All (IsWire design.library design.vias special) (wire ∷ wires)
-        → wiring_at (net_scope design) special (codes "ROUTED" ∷ (wire_words design special wire ++ words_in_lines (map more_words wires))) ≡ Some
+        → wiring_at (net_scope Narrow design) special (codes "ROUTED" ∷ (wire_words design special wire ++ words_in_lines (map more_words wires))) ≡ Some
         (wire ∷ wires, [])
     unfolding wiring_at wiring_start paths_at next_at
     wiring_again wire wires each =

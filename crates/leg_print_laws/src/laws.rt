@@ -17,6 +17,7 @@ ghost use Rattle.leg_design_records.specs.declared.records.Component.{Component}
 ghost use Rattle.leg_design_records.specs.Records.{DesignModel, TrackModel, PinModel, BlockageModel, NetModel};
 ghost use Rattle.leg_design_records.specs.WellFormedParts.{IsArea, IsRow, IsTrack};
 ghost use Rattle.leg_design_records.specs.WellFormed.{IsWellFormed};
+ghost use Rattle.leg_grammar.specs.declared.profile.Profile.TheVariants.{Narrow};
 ghost use Rattle.leg_grammar.specs.Def.Die.{die_at};
 ghost use Rattle.leg_grammar.specs.Def.Row.{row_at};
 ghost use Rattle.leg_grammar.specs.Def.Track.{track_at};
@@ -48,7 +49,7 @@ use std::alloc::Allocator;
 /// The printed text of a design denotes exactly this design, and the units of its library.
 pub fn printed_text_says_its_design()
     ensures design { (design : DesignModel) → IsSound design.library → IsWellFormed design → StayOne (printed_names design)
-        → length (design_text design) ≤ TEXT_LIMIT → Denotes (design_in design.library) (design_text design) design }
+        → length (design_text design) ≤ TEXT_LIMIT → Denotes (design_in Narrow design.library) (design_text design) design }
     ensures units { (design : DesignModel) → IsSound design.library → IsWellFormed design → StayOne (printed_names design)
         → length (design_text design) ≤ TEXT_LIMIT → Denotes units_in (design_text design) design.library.units }
 {}
@@ -56,9 +57,9 @@ pub fn printed_text_says_its_design()
 /// The printed text of a design denotes no other design, so that what is read of it is printed as the same bytes again.
 pub fn printed_text_says_no_other()
     ensures same { (design other : DesignModel) → IsSound design.library → IsWellFormed design → StayOne (printed_names design)
-        → length (design_text design) ≤ TEXT_LIMIT → Denotes (design_in design.library) (design_text design) other → other ≡ design }
+        → length (design_text design) ≤ TEXT_LIMIT → Denotes (design_in Narrow design.library) (design_text design) other → other ≡ design }
     ensures bytes { (design other : DesignModel) → IsSound design.library → IsWellFormed design → StayOne (printed_names design)
-        → length (design_text design) ≤ TEXT_LIMIT → Denotes (design_in design.library) (design_text design) other
+        → length (design_text design) ≤ TEXT_LIMIT → Denotes (design_in Narrow design.library) (design_text design) other
         → design_text other ≡ design_text design }
 {
     leg_lex::laws::one_cut();
@@ -68,13 +69,13 @@ pub fn printed_text_says_no_other()
 /// own than a number can be: their count is printed, and is read as a number.
 pub fn printed_words_say_their_design()
     ensures { (design : DesignModel) → IsSound design.library → IsWellFormed design → StayOne (printed_names design)
-        → length design.vias ≤ NUMBER_LIMIT → WordsDenote (design_in design.library) (design_text design) design }
+        → length design.vias ≤ NUMBER_LIMIT → WordsDenote (design_in Narrow design.library) (design_text design) design }
 {}
 
 /// The same of a design that the program has: it and its library are as the laws ask for, by their types.
 pub fn printed_design_is_read_again<A: Allocator + Copy>(design: &Design<'_, A>)
     ensures { StayOne (printed_names design.now) → length (design_text design.now) ≤ TEXT_LIMIT
-        → Denotes (design_in design.now.library) (design_text design.now) design.now }
+        → Denotes (design_in Narrow design.now.library) (design_text design.now) design.now }
 {
     let library = design.library();
     let _layers = library.layers();
@@ -169,8 +170,8 @@ pub fn blockage_entry_is_read()
 pub fn net_entry_is_read()
     ensures special { (design : DesignModel) (before after : List NetModel) (net : NetModel) → IsSound design.library → IsWellFormed design
         → design.special ≡ before ++ (net ∷ after) → StayOne (net_entry_names design net)
-        → DenotesForm (net_entry (net_scope design) true [] before) (net_text design true net) (before ++ net ∷ []) }
+        → DenotesForm (net_entry (net_scope Narrow design) true [] before) (net_text design true net) (before ++ net ∷ []) }
     ensures nets { (design : DesignModel) (before after : List NetModel) (net : NetModel) → IsSound design.library → IsWellFormed design
         → design.nets ≡ before ++ (net ∷ after) → StayOne (net_entry_names design net)
-        → DenotesForm (net_entry (net_scope design) false design.special before) (net_text design false net) (before ++ net ∷ []) }
+        → DenotesForm (net_entry (net_scope Narrow design) false design.special before) (net_text design false net) (before ++ net ∷ []) }
 {}

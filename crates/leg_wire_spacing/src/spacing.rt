@@ -1,4 +1,4 @@
-//! How far apart shapes of one layer have to lie. Nothing else asks a layer for its spacing.
+//! How far apart shapes of one layer have to lie. No other code asks a layer of a library for its spacing.
 
 ghost use Rattle.std.specs.Prelude.{◌≡◌, ◌≤◌};
 ghost use Rattle.leg_lex.specs.declared.limits.TheConstants.{NUMBER_LIMIT};
@@ -9,7 +9,7 @@ use leg_rules::Shape;
 use std::alloc::Allocator;
 
 /// No two shapes on the layer of this number have to lie farther apart than this, in database units; 0 where there is no such
-/// layer. It is for whoever has to keep clear of shapes that it doesn't know yet.
+/// layer. What lays wires keeps it from all shapes, since it doesn't know which metal comes next to them.
 #[tactic(auto, unfolding(leg_rules::specs::Spacing::RequiredSpacing::greatest_spacing_on))]
 pub fn greatest_spacing_on<A: Allocator + Copy>(library: &Library<'_, A>, layer: usize) -> u64
     ensures is { result ≡ greatest_spacing_on library.now layer }

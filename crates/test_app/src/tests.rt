@@ -6,11 +6,13 @@ mod input;
 mod judged;
 mod lines;
 mod metal;
+mod options;
 
 ghost use Rattle.std.specs.Prelude.{Some};
 
 use leg_app::{
-    Asked, Command, Line, RunFault, Status, asked_by, line_of, run, run_stream, split_stream,
+    Asked, Command, Line, Profile, RunFault, Status, asked_by, line_of, run, run_stream,
+    split_stream,
 };
 use std::alloc::{AllocError, Global};
 use std::io;
@@ -148,7 +150,7 @@ fn passes(alloc: Global, texts: &[&str], test: fn(&[String]) -> bool) -> bool
 }
 
 fn are_no_line(words: &[String]) -> bool {
-    line_of(words).is_none()
+    line_of(Profile::Narrow, words).is_none()
 }
 
 fn ask_for_a_stream(words: &[String]) -> bool {
@@ -189,6 +191,7 @@ fn is_line(line: &Line<'_, Global>) -> bool {
     match line.lefs {
         [sites, cells] => {
             line.command == Command::PlaceCheck
+                && line.profile == Profile::Narrow
                 && same(line.def, "top.def")
                 && same(sites, "sites.lef")
                 && same(cells, "cells.lef")
@@ -198,7 +201,7 @@ fn is_line(line: &Line<'_, Global>) -> bool {
 }
 
 fn are_a_line(words: &[String]) -> bool {
-    match line_of(words) {
+    match line_of(Profile::Narrow, words) {
         Some(line) => is_line(&line),
         None => false,
     }

@@ -14,7 +14,7 @@ use std::alloc::{Allocator, Global};
 use test_alloc::RefusingAlloc;
 use test_memory::library_of_cells;
 
-const COMMANDS: [Command; 7] = [
+const COMMANDS: [Command; 8] = [
     Command::Check,
     Command::PlaceCheck,
     Command::Measure,
@@ -22,6 +22,7 @@ const COMMANDS: [Command; 7] = [
     Command::Route,
     Command::Flow,
     Command::Finish,
+    Command::Print,
 ];
 
 /// Whether each command on the DEF goes right with each allocation refused in turn.

@@ -27,6 +27,11 @@ def measure(design):
     return f'hpwl {wirelength(design)}\n', 0
 
 
+def print_design(design):
+    """Returns the answer to print."""
+    return design_text(design), 0
+
+
 def move_lines(design, distances):
     """Returns the lines on how far components have moved."""
     moves = [f'# move {it.name} {distance}' for it, distance in zip(design.components, distances) if distance]
@@ -59,6 +64,7 @@ def flow(design):
         return text_of(refusal.lines), 3
 
 
-COMMANDS = {'check': check, 'place-check': place_check, 'measure': measure, 'legalise': legalise, 'route': route, 'flow': flow}
+COMMANDS = {'check': check, 'place-check': place_check, 'measure': measure, 'print': print_design, 'legalise': legalise, 'route': route,
+            'flow': flow}
 # For each command whose answer is not determined: what is wrong with an output and a status for a design, in words, or None.
 JUDGES = {'finish': finisher.wrong_with}

@@ -3,7 +3,7 @@ from .dice import Dice
 
 FAMILIES = ('components', 'rows', 'wires', 'nets', 'terminals', 'routed nets', 'walks', 'pins of the design', 'rectangles',
             'tracks', 'layers', 'special nets', 'macros', 'legal', 'thinned wires', 'corners', 'all')
-COMMANDS = ('check', 'place-check', 'measure', 'legalise', 'route', 'flow', 'finish')
+COMMANDS = ('check', 'place-check', 'measure', 'print', 'legalise', 'route', 'flow', 'finish')
 # Of four counts of a family three are small, from 0 to 12 in turn, and one is large, of these in turn, but not above the family's most.
 SMALL_COUNTS = 13
 LARGE_COUNTS = (140, 17, 1200, 33, 280, 70, 600)
@@ -11,7 +11,7 @@ MOST = {'wires': 600, 'nets': 280, 'terminals': 600, 'routed nets': 33, 'walks':
         'tracks': 33, 'layers': 33, 'special nets': 140, 'macros': 280, 'legal': 140, 'thinned wires': 33, 'corners': 33}
 # Where the count is above this one, no wires are asked for, which takes long here.
 MOST_ROUTED = 100
-NOT_ROUTED = COMMANDS[:4]
+NOT_ROUTED = COMMANDS[:5]
 # One block of so many is one of these in turn, and is asked these commands.
 LARGE_EVERY = 50
 LARGE = ('components', 'metal', 'routes')

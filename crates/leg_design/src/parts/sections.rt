@@ -114,9 +114,10 @@ impl<'a, A: Allocator + Copy> Parts<'a, A> {
 
     // What nets name parts of.
     fn net_scope<'k>(&'k self) -> NetScope<'k, 'a, A>
-        ensures { result ≡ net_scope self.now.design }
+        ensures { result ≡ net_scope self.now.profile self.now.design }
     {
         NetScope {
+            profile: self.profile,
             library: self.library,
             vias: &self.vias,
             components: &self.components,

@@ -5,6 +5,7 @@ use Rattle.leg_lex.specs.Until.{until}
 use Rattle.leg_lex.specs.Statements.{at_end}
 use Rattle.leg_lib_records.specs.Records.{LibraryModel}
 use Rattle.leg_design_records.specs.declared.limits.TheConstants.{PART_LIMIT}
+use Rattle.leg_grammar.specs.declared.profile.Profile.{Profile}
 use Rattle.leg_grammar.specs.Def.Guard.{when, unless}
 use Rattle.leg_grammar.specs.Def.LonePins.{NetLists, with_lone_pins}
 use Rattle.leg_design_records.specs.Records.{DesignModel, terminal_count}
@@ -48,10 +49,10 @@ design_of parts = do
   few ← unless (nat_lt PART_LIMIT (terminal_count (all_nets parts.design).nets + terminal_count (all_nets parts.design).special))
   Some (with_all_nets parts.design)
 
--- the forms, END DESIGN, and nothing after it
-unfoldable pub design_in : LibraryModel → Words → Option DesignModel
-design_in library words = do
-  forms ← until at_end def_form_at (no_parts library) words
+-- the forms in a profile, END DESIGN, and nothing after it
+unfoldable pub design_in : Profile → LibraryModel → Words → Option DesignModel
+design_in profile library words = do
+  forms ← until at_end def_form_at (no_parts profile library) words
   end ← end_at (codes "DESIGN") forms.1
   nothing ← nothing_at end.1
   design_of forms.0

@@ -3,6 +3,7 @@ use Rattle.std.specs.Prelude.{pos, Bool, true, false, ◌==◌, [], ◌∷◌, �
 use Rattle.leg_lex.specs.Words.{Words, ◌>>=◌}
 use Rattle.leg_geom.specs.Plane.{RectModel}
 use Rattle.leg_lib_records.specs.Records.{LibraryModel}
+use Rattle.leg_grammar.specs.declared.profile.Profile.{Profile}
 use Rattle.leg_grammar.specs.Def.Guard.{when, unless}
 use Rattle.leg_grammar.specs.Def.NetScope.{NetScopeModel}
 use Rattle.leg_grammar.specs.Def.Header.{word_after, design_name_at, units_at}
@@ -29,8 +30,10 @@ pub record Appearances : Type 0 where
   pub nets : Bool
   pub special : Bool
 
--- What the forms before gave: a design, whose name is empty until DESIGN has appeared, and its die area a point until DIEAREA has.
+-- What the forms before gave: a design, whose name is empty until DESIGN has appeared, and its die area a point until DIEAREA has. The
+-- profile in which they are read stays the same.
 pub record DesignParts : Type 0 where
+  pub profile : Profile
   pub has : Appearances
   pub design : DesignModel
 
@@ -39,8 +42,9 @@ abbrev pub no_die : RectModel
 no_die = record { x1 = pos 0; y1 = pos 0; x2 = pos 0; y2 = pos 0 }
 
 -- before the first form
-abbrev pub no_parts : LibraryModel → DesignParts
-no_parts library = record {
+abbrev pub no_parts : Profile → LibraryModel → DesignParts
+no_parts profile library = record {
+  profile = profile;
   has = record { name = false; units = false; die = false; vias = false; components = false; pins = false; blockages = false; nets = false; special = false };
   design = record {
     library = library;
@@ -60,8 +64,8 @@ no_parts library = record {
 }
 
 -- what nets may name
-abbrev pub net_scope : DesignModel → NetScopeModel
-net_scope design = record { library = design.library; vias = design.vias; components = design.components; pins = design.pins }
+abbrev pub net_scope : Profile → DesignModel → NetScopeModel
+net_scope profile design = record { profile = profile; library = design.library; vias = design.vias; components = design.components; pins = design.pins }
 
 -- DIVIDERCHAR word ; once
 unfoldable pub divider_form : DesignParts → Words → Option (DesignParts × Words)
@@ -82,7 +86,7 @@ unfoldable pub name_form : DesignParts → Words → Option (DesignParts × Word
 name_form parts words = do
   once ← unless parts.has.name
   name ← design_name_at words
-  Some (record { has = record (parts.has) { name = true }; design = record (parts.design) { name = name.0 } }, name.1)
+  Some (record parts { has = record (parts.has) { name = true }; design = record (parts.design) { name = name.0 } }, name.1)
 
 -- UNITS once, with the library's
 unfoldable pub units_form : DesignParts → Words → Option (DesignParts × Words)
@@ -97,7 +101,7 @@ unfoldable pub die_form : DesignParts → Words → Option (DesignParts × Words
 die_form parts words = do
   once ← unless parts.has.die
   die ← die_at words
-  Some (record { has = record (parts.has) { die = true }; design = record (parts.design) { die = die.0 } }, die.1)
+  Some (record parts { has = record (parts.has) { die = true }; design = record (parts.design) { die = die.0 } }, die.1)
 
 unfoldable pub row_form : DesignParts → Words → Option (DesignParts × Words)
 row_form parts words = do
@@ -114,34 +118,34 @@ unfoldable pub vias_form : DesignParts → Words → Option (DesignParts × Word
 vias_form parts words = do
   once ← unless parts.has.vias
   vias ← vias_at parts.design.library words
-  Some (record { has = record (parts.has) { vias = true }; design = record (parts.design) { vias = vias.0 } }, vias.1)
+  Some (record parts { has = record (parts.has) { vias = true }; design = record (parts.design) { vias = vias.0 } }, vias.1)
 
 unfoldable pub components_form : DesignParts → Words → Option (DesignParts × Words)
 components_form parts words = do
   once ← unless parts.has.components
   components ← components_at parts.design.library words
-  Some (record { has = record (parts.has) { components = true }; design = record (parts.design) { components = components.0 } }, components.1)
+  Some (record parts { has = record (parts.has) { components = true }; design = record (parts.design) { components = components.0 } }, components.1)
 
 unfoldable pub pins_form : DesignParts → Words → Option (DesignParts × Words)
 pins_form parts words = do
   once ← unless parts.has.pins
   pins ← pins_at parts.design.library words
-  Some (record { has = record (parts.has) { pins = true }; design = record (parts.design) { pins = pins.0 } }, pins.1)
+  Some (record parts { has = record (parts.has) { pins = true }; design = record (parts.design) { pins = pins.0 } }, pins.1)
 
 unfoldable pub blockages_form : DesignParts → Words → Option (DesignParts × Words)
 blockages_form parts words = do
   once ← unless parts.has.blockages
   blockages ← blockages_at parts.design.library words
-  Some (record { has = record (parts.has) { blockages = true }; design = record (parts.design) { blockages = blockages.0 } }, blockages.1)
+  Some (record parts { has = record (parts.has) { blockages = true }; design = record (parts.design) { blockages = blockages.0 } }, blockages.1)
 
 unfoldable pub nets_form : DesignParts → Words → Option (DesignParts × Words)
 nets_form parts words = do
   once ← unless parts.has.nets
-  nets ← nets_at (net_scope parts.design) false parts.design.special words
-  Some (record { has = record (parts.has) { nets = true }; design = record (parts.design) { nets = nets.0 } }, nets.1)
+  nets ← nets_at (net_scope parts.profile parts.design) false parts.design.special words
+  Some (record parts { has = record (parts.has) { nets = true }; design = record (parts.design) { nets = nets.0 } }, nets.1)
 
 unfoldable pub special_form : DesignParts → Words → Option (DesignParts × Words)
 special_form parts words = do
   once ← unless parts.has.special
-  special ← nets_at (net_scope parts.design) true parts.design.nets words
-  Some (record { has = record (parts.has) { special = true }; design = record (parts.design) { special = special.0 } }, special.1)
+  special ← nets_at (net_scope parts.profile parts.design) true parts.design.nets words
+  Some (record parts { has = record (parts.has) { special = true }; design = record (parts.design) { special = special.0 } }, special.1)

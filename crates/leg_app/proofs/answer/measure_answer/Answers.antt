@@ -3,7 +3,7 @@ use Rattle.std.proofs.lemmas.Int.{to_z-of_z}
 use Rattle.leg_app.proofs.answer.measure_answer.Goals as goal
 
 pub returns : goal.returns
-returns g c lefs def say =
+returns g c profile lefs def say =
     let length = c.hpwl-length.result in
     let fits : SFits w64 length = search rules in
     record {

@@ -12,8 +12,8 @@ returns g c =
     let list = c.in_ok-violations.ensures in
     let listed = rw (nothing_there (λ flat. flat.now) c.as_ref.result c.as_ref.ensures.variant, c.deref.ensures.value) at c.listing.ensures.listed in
     IfOk-weaker c.listing.result _ _
-    (λ answer both lefs def say. record {
-      answer = listed_answer PlaceCheck lefs def design.library design None violations answer.status answer.text.items say tt list both.0;
+    (λ answer both profile lefs def say. record {
+      answer = listed_answer PlaceCheck profile lefs def design.library design None violations answer.status answer.text.items say tt list both.0;
       explains = explains_listing design None violations answer.status answer.reason answer.text.items _ both.1 both.0;
     })
     (ok_both _ _ c.listing.result listed c.listing.ensures.no_reason)

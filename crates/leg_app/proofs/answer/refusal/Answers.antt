@@ -6,11 +6,11 @@ use Rattle.leg_app.proofs.answer.refusal.Goals as goal
 pub returns-in-Read : goal.returns-in-Read
 returns-in-Read g c =
     IfOk-weaker c.unread.result _ _
-    (λ answer all lefs def refused units of_master. all lefs def (rw c.in-Read.is at refused) (rw c.in-Read.is at of_master))
+    (λ answer all profile lefs def refused units of_master. all profile lefs def (rw c.in-Read.is at refused) (rw c.in-Read.is at of_master))
     c.unread.ensures
 
 pub returns-in_ok-text-in-Scale : goal.returns-in_ok-text-in-Scale
-returns-in_ok-text-in-Scale g c = λ lefs def refused units of_master.
+returns-in_ok-text-in-Scale g c = λ profile lefs def refused units of_master.
     let fault = c.in-Scale.fault in
     let not_memory : fault.kind ≢ scale.Memory = λ is. (let same = rw is at c.if-ne.ensures in cc) in
     let nothing = (rw c.in-Scale.is at refused) not_memory in

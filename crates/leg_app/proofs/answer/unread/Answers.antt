@@ -3,7 +3,7 @@ use Rattle.leg_lex.specs.declared.read_fault.FaultKind.TheVariants as kinds
 use Rattle.leg_app.proofs.answer.unread.Goals as goal
 
 pub returns : goal.returns
-returns g c = λ lefs def refused of_master.
+returns g c = λ profile lefs def refused of_master.
     let fault = c.args.fault in
     let not_memory : fault.kind ≢ kinds.Memory = λ is. (let same = rw is at c.if-eq.ensures in cc) in
     let nothing = refused not_memory in

@@ -12,9 +12,9 @@ returns-in-Ok g c =
     let flat = Some checked.flat in
     let violations = checked.violations.items in
     IfOk-weaker c.listing.result _ _
-    (λ answer both lefs def say. record {
+    (λ answer both profile lefs def say. record {
       answer =
-          listed_answer Check lefs def design.library design flat violations answer.status answer.text.items say c.in-Ok.ensures.flat
+          listed_answer Check profile lefs def design.library design flat violations answer.status answer.text.items say c.in-Ok.ensures.flat
           c.in-Ok.ensures.list both.0;
       explains = explains_listing design flat violations answer.status answer.reason answer.text.items _ both.1 both.0;
     })

@@ -10,7 +10,7 @@ returns-in-Ok-clause-found g c =
     (λ found list lefs just. record {
       library = design.library;
       design = design;
-      say = say_under lefs c.args.def c.args.library.now design just c.in-Ok.ensures.found;
+      say = say_under c.args.profile lefs c.args.def c.args.library.now design just c.in-Ok.ensures.found;
       all = list;
     })
     c.violations_of.ensures.found
@@ -18,9 +18,11 @@ returns-in-Ok-clause-found g c =
 pub returns-in-Ok-clause-refused : goal.returns-in-Ok-clause-refused
 returns-in-Ok-clause-refused g c =
     IfErr-weaker c.violations_of.result _ _
-    (λ fault refused lefs just. refused lefs c.args.def (say_under lefs c.args.def c.args.library.now c.in-Ok.design just c.in-Ok.ensures.found))
+    (λ fault refused lefs just. refused c.args.profile lefs c.args.def
+    (say_under c.args.profile lefs c.args.def c.args.library.now c.in-Ok.design just c.in-Ok.ensures.found))
     c.violations_of.ensures.refused
 
 pub returns-in-Err-clause-refused : goal.returns-in-Err-clause-refused
 returns-in-Err-clause-refused g c =
-    λ lefs just not_memory. no_design lefs c.args.def c.args.library.now just (c.in-Err.ensures.none (λ is. not_memory (c.behind_lefs.ensures.kind ∙ is)))
+    λ lefs just not_memory. no_design c.args.profile lefs c.args.def c.args.library.now just
+    (c.in-Err.ensures.none (λ is. not_memory (c.behind_lefs.ensures.kind ∙ is)))

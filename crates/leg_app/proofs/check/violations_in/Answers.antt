@@ -6,7 +6,7 @@ use Rattle.leg_app.proofs.check.violations_in.Goals as goal
 pub returns-in_err-library-clause-refused : goal.returns-in_err-library-clause-refused
 returns-in_err-library-clause-refused g c =
     let p = err_from_is_err_and c.from_residual.result c.from_residual.ensures.1 in
-    rw (p.1, p.2) (refuses_weaker _ (nothing_under _ _) (λ none. absurd none) c.in_err-library.ensures.none)
+    rw (p.1, p.2) (refuses_weaker _ (nothing_under _ _ _) (λ none. absurd none) c.in_err-library.ensures.none)
 
 pub returns-clause-found : goal.returns-clause-found
 returns-clause-found g c =

@@ -7,14 +7,14 @@ pub returns-in-Ok : goal.returns-in-Ok
 returns-in-Ok g c =
     let other = c.args.other.now in
     IfOk-weaker c.units_differ.result _ _
-    (λ answer all lefs before library first say apart just. all lefs before c.args.after
+    (λ answer all lefs before library first say apart just. all c.args.profile lefs before c.args.after
     (record {
       library = library;
       other = other;
       first = first;
       second = _;
       say_first = say;
-      say_second = say_design lefs c.args.after other _ just
+      say_second = say_design c.args.profile lefs c.args.after other _ just
           c.in-Ok.ensures.found;
       apart = apart;
       is = refl;
@@ -24,4 +24,4 @@ returns-in-Ok g c =
 pub returns-in-Err : goal.returns-in-Err
 returns-in-Err g c =
     IfOk-weaker c.unread.result _ _ (λ answer all lefs before library first say apart just.
-    all lefs before c.args.after just c.in-Err.ensures.none) c.unread.ensures
+    all c.args.profile lefs before c.args.after just c.in-Err.ensures.none) c.unread.ensures

@@ -8,6 +8,7 @@ use Rattle.leg_app.proofs.compare.other_units.Goals as goal
 
 pub returns-in-Ok : goal.returns-in-Ok
 returns-in-Ok g c =
+    let profile = c.args.profile in
     let lefs = map (λ t. t.now) c.args.lefs.now in
     let after = c.args.after.now in
     let said = c.in-Ok.ensures in
@@ -20,12 +21,14 @@ returns-in-Ok g c =
 
 pub returns-in-Err : goal.returns-in-Err
 returns-in-Err g c =
+    let profile = c.args.profile in
     let lefs = map (λ t. t.now) c.args.lefs.now in
     let after = c.args.after.now in
     let fault = c.in-Err.fault in
     let none = c.in-Err.ensures.none in
     IfOk-weaker c.refusal.result _ _
-    (λ answer all before first say apart. all lefs before after
-    (refuses_weaker {nothing = DenoteNoLibrary lefs after} {other = DenoteNothing lefs after} {much = ⊥} {more = ⊥} fault (nothing_under lefs after)
-    (λ much. much) none) c.in-Err.ensures.units (master_of_none lefs after fault none))
+    (λ answer all before first say apart. all profile lefs before after
+    (refuses_weaker {nothing = DenoteNoLibrary profile lefs after} {other = DenoteNothing profile lefs after} {much = ⊥} {more = ⊥} fault
+    (nothing_under profile lefs after)
+    (λ much. much) none) c.in-Err.ensures.units (master_of_none profile lefs after fault none))
     c.refusal.ensures

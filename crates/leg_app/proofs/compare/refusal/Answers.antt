@@ -8,21 +8,21 @@ use Rattle.leg_app.proofs.compare.refusal.Goals as goal
 pub returns-in-Read : goal.returns-in-Read
 returns-in-Read g c =
     IfOk-weaker c.not_read.result _ _
-    (λ answer all lefs before after refused units of_master. all lefs before after (rw c.in-Read.is at refused) (rw c.in-Read.is at of_master))
+    (λ answer all profile lefs before after refused units of_master. all profile lefs before after (rw c.in-Read.is at refused) (rw c.in-Read.is at of_master))
     c.not_read.ensures
 
 pub returns-in_ok-text-in-Scale : goal.returns-in_ok-text-in-Scale
-returns-in_ok-text-in-Scale g c = λ lefs before after refused units of_master.
+returns-in_ok-text-in-Scale g c = λ profile lefs before after refused units of_master.
     let fault = c.in-Scale.fault in
     let not_memory : fault.kind ≢ scale.Memory = λ is. (let same = rw is at c.if-ne.ensures in cc) in
     let nothing = (rw c.in-Scale.is at refused) not_memory in
     let told = c.in_ok-text-in-Scale.ensures in
     rw c.refused.ensures (record {
       answer = record {
-        nothing = nothing_of c.args.side lefs before after nothing;
+        nothing = nothing_of c.args.side profile lefs before after nothing;
         reason = inr
             (record { name = fault.name; kind = fault.kind; not_memory = not_memory; is = told });
       };
       explains = (tt, (not_memory, told), record { nothing = nothing; units_are = rw c.in-Scale.is at units });
-      tells = tells_none lefs before after Refused (λ no. cc);
+      tells = tells_none profile lefs before after Refused (λ no. cc);
     })

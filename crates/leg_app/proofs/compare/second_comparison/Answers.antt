@@ -7,7 +7,7 @@ use Rattle.leg_app.proofs.Comparisons.{library_of}
 use Rattle.leg_app.proofs.compare.second_comparison.Goals as goal
 
 pub comparison-requires : goal.comparison-requires
-comparison-requires g c = c.requires ∙ sym (library_of c.args.library.now c.args.after c.in-Ok.second c.in-Ok.ensures.found)
+comparison-requires g c = c.requires ∙ sym (library_of c.args.profile c.args.library.now c.args.after c.in-Ok.second c.in-Ok.ensures.found)
 
 pub returns-in-Ok : goal.returns-in-Ok
 returns-in-Ok g c =
@@ -17,14 +17,15 @@ returns-in-Ok g c =
     let after = c.args.after in
     let same = sym c.requires in
     IfOk-weaker c.comparison.result _ _
-    (λ answer all lefs before just says just_after. all lefs before after
-    (subst (λ l. DenotesJust lefs before l) same just)
-    (subst (λ l. Denotes (design_in l) before first) same says)
-    (subst (λ l. DenotesJust lefs after l) same just_after)
-    (subst (λ l. Denotes (design_in l) after second) same c.in-Ok.ensures.found))
+    (λ answer all lefs before just says just_after. all c.args.profile lefs before after
+    (subst (λ l. DenotesJust c.args.profile lefs before l) same just)
+    (subst (λ l. Denotes (design_in c.args.profile l) before first) same says)
+    (subst (λ l. DenotesJust c.args.profile lefs after l) same just_after)
+    (subst (λ l. Denotes (design_in c.args.profile l) after second) same c.in-Ok.ensures.found))
     c.comparison.ensures
 
 pub returns-in-Err : goal.returns-in-Err
 returns-in-Err g c =
-    IfOk-weaker c.unread.result _ _ (λ answer all lefs before just says just_after. all lefs before c.args.after just_after c.in-Err.ensures.none)
+    IfOk-weaker c.unread.result _ _ (λ answer all lefs before just says just_after. all c.args.profile lefs before c.args.after just_after
+    c.in-Err.ensures.none)
     c.unread.ensures

@@ -3,5 +3,5 @@ use Rattle.leg_app.proofs.laws.command_has_one_answer.Goals as goal
 
 pub returns : goal.returns
 returns c =
-    λ command lefs def status other text words p q first second third. one_answer command lefs def
-    (c.texts_say_one_design.ensures lefs def) first second third status other text words p q
+    λ command profile lefs def status other text words p q first second third. one_answer command profile lefs def
+    (c.texts_say_one_design.ensures profile lefs def) first second third status other text words p q

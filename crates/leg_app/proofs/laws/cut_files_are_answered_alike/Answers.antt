@@ -4,4 +4,4 @@ use Rattle.leg_app.proofs.CutTexts.{cut_answers}
 use Rattle.leg_app.proofs.laws.cut_files_are_answered_alike.Goals as goal
 
 pub returns : goal.returns
-returns c = λ command lefs def. cut_answers FILE_LIMIT (omega arith) lefs def command
+returns c = λ command profile lefs def. cut_answers FILE_LIMIT (omega arith) profile lefs def command

@@ -1,4 +1,4 @@
-use Rattle.leg_app_laws.proofs.Legal.{routed_said, legalised_said, flow_said, finished_said}
+use Rattle.leg_app_laws.proofs.Legal.{routed_said, legalised_said, flow_said, finished_said, design_said}
 use Rattle.leg_app_laws.proofs.laws.printed_texts_say_their_designs.Goals as goal
 
 pub returns-clause-routed : goal.returns-clause-routed
@@ -16,3 +16,7 @@ returns-clause-flow c = λ lefs def text library design say.
 pub returns-clause-finished : goal.returns-clause-finished
 returns-clause-finished c = λ lefs def text library design say.
     finished_said c.printed_text_says_its_design.ensures.design c.printed_text_says_its_design.ensures.units lefs def text library design say
+
+pub returns-clause-printed : goal.returns-clause-printed
+returns-clause-printed c = λ lefs def text library design say.
+    design_said c.printed_text_says_its_design.ensures.design c.printed_text_says_its_design.ensures.units lefs def text library design say

@@ -14,7 +14,7 @@ returns-in-Ok g c =
     let answer = c.in-Ok.answer in
     let explained =
     subst
-    (λ (t : TextsModel). IsExplained c.args.command t.lefs t.def answer.reason answer.status answer.text.items)
+    (λ (t : TextsModel). IsExplained c.args.command t.profile t.lefs t.def answer.reason answer.status answer.text.items)
     c.texts.view_is
     c.in-Ok.ensures in
     record {
@@ -22,7 +22,7 @@ returns-in-Ok g c =
       text = answer.text.items;
       reason = option_map said answer.reason;
       message = c.message_on-explanation.result.items;
-      answer = explained_said c.args.command texts.lefs texts.def answer.reason answer.status answer.text.items explained;
+      answer = explained_said c.args.command texts.profile texts.lefs texts.def answer.reason answer.status answer.text.items explained;
       ends = c.give.ensures.status;
       counts = rw c.deref-in-Ok.ensures.value at c.give.ensures.count;
       fills = rw c.deref-in-Ok.ensures.value at c.give.ensures.front;
