@@ -74,7 +74,8 @@ class Trial:
     def take(self, made, said):
         """Takes what a check of this round said, and returns the results."""
         changed = {it for edit in made for it in edit.functions}
-        others = [path for path, verdict in said.verdicts.items() if verdict != 'proved' and not of.CALLS.search(verdict) and not any(of.is_part(path, it) for it in changed)]
+        unproved = [path for path, verdict in said.verdicts.items() if not of.is_proved(said, path) and not of.CALLS.search(verdict)]
+        others = [path for path in unproved if not any(of.is_part(path, it) for it in changed)]
         if len(made) > 1 and (others or not said.has_ended):
             self.alone.update(made)
             return []

@@ -13,6 +13,8 @@ ERROR = re.compile(r'^(?:\./)?(proofs/\S+?):\d+:\d+: error: (.*(?:\n  .*)*)$', r
 UNPROVED = re.compile(r'`(?:omega|grind|search|simp|decide)\b[^`]*`: ')
 CALLS = re.compile(r'it calls `\w+?::(\S+?)`')
 PROVED, OPEN, UNFIT, UNKNOWN = 'proved', 'open', 'unfit', 'unknown'
+# What a check says of a closure where a function that leads to it is not proved.
+PROVED_AS_ASKED = 'proved where its callers give what it asks'
 
 
 class Said(NamedTuple):
@@ -41,6 +43,13 @@ def read(text):
 def is_part(path, function):
     """Returns whether this is the path of the function or of one of its closures."""
     return path == function or path.replace('::fn::', '::').startswith(f'{function}::')
+
+
+def is_proved(said, path):
+    """Returns whether what has this path is proved: of a closure, also where it is as far as its callers go, if the function that has it is."""
+    verdict = said.verdicts[path]
+    owners = [it for it, other in said.verdicts.items() if it != path and other == PROVED and is_part(path, it)]
+    return verdict == PROVED or (verdict == PROVED_AS_ASKED and owners != [])
 
 
 def called(said, function):

@@ -305,6 +305,11 @@ class RoundTests(Room):
                                           'fn counts::named::Count::len: no proof: it calls `counts::named::Count::fn::len::filter`, which is not proved'))
         self.assertEqual(kinds, {'counts/all': REFUSED})
 
+    def test_a_closure_is_proved_as_far_as_its_callers_go(self):
+        asked = 'fn counts::named::Count::fn::len::filter: proved where its callers give what it asks'
+        self.assertEqual(self.one(self.OPEN, self.NO_PROOF, asked, 'fn counts::named::Count::len: proved'), REFUSED)
+        self.assertEqual(self.one(self.OPEN, self.NO_PROOF, asked, 'fn counts::named::Count::len: not proved'), FAILED)
+
     def test_what_does_not_fit_fails_and_what_is_left_is_late(self):
         trial = self.trial(self.lower('a', 'b < a'), self.edit('gone', ('no such text', 'x')))
         self.assertEqual(self.kinds(trial), {'counts/gone': FAILED, 'counts/a': LATE})
