@@ -24,7 +24,8 @@ class Edit(NamedTuple):
 def pairs_of(text):
     """Yields the file and the old and the new text of each change of an edit."""
     file = old = None
-    for word, _, rest in (line.partition(' ') for line in text.splitlines()):
+    for line in text.splitlines():
+        word, _, rest = line.partition(' ')
         if word == 'file:':
             file = rest.strip()
         elif word == 'old:':
@@ -33,6 +34,8 @@ def pairs_of(text):
             if not file or not old:
                 raise DoesNotFit('a line new: without a file: and an old: before it')
             yield file, old, rest
+        elif line.strip() and word != 'breaks:' and not line.startswith('#'):
+            raise DoesNotFit(f'a line that is neither file:, old:, new: nor breaks: {line.strip()}')
 
 
 def lines_of(text, folder):

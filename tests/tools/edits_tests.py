@@ -193,6 +193,8 @@ class EditTests(Room):
         for pairs in ((('a + b', 'a - b'),), (('a < c', 'a'),), ()):
             with self.assertRaises(DoesNotFit):
                 self.read('wrong', *pairs)
+        with self.assertRaises(DoesNotFit):
+            self.read('longer', ('a < b', 'a <= b\n    && true'))
         twice = self.read('again', ('a < b', 'a <= b'), ('a <= b', 'b <= a'))
         self.assertEqual([text.strip() for _, _, text in twice.lines], ['if b <= a { a } else { b }'])
 
