@@ -2,6 +2,7 @@
 
     all_of = Definitions(crates)                 those of the crates of a `contracts.Crates`
     all_of.reached(citations)                    the definitions that these reach, and the types of the code, as two sets
+    all_of.reached(citations, is_narrow=True)    the same of what the narrow profile needs: no clause at `Wide` counts
     all_of.in_order(keys)                        the definitions by file, in the order in which the files are read
 
 A definition is named by its file and its name. A constructor counts as the definition that it belongs to.
@@ -24,14 +25,20 @@ class Key(NamedTuple):
 
 
 class Definition:
-    """A definition: how many lines it has without comments, and its text."""
+    """A definition: how many lines it has without comments, and its text; and the same without its clauses at the wide profile."""
 
     def __init__(self):
-        self.lines, self.text = 0, ""
+        self.lines, self.text, self.narrow_lines, self.narrow_text, self.is_wide = 0, "", 0, "", False
 
     def add(self, line):
+        text = line.partition("--")[0] + "\n"
+        if not line[0].isspace():
+            self.is_wide = "(Wide " in line.partition(" = ")[0]
         self.lines += 1
-        self.text += line.partition("--")[0] + "\n"
+        self.text += text
+        if not self.is_wide:
+            self.narrow_lines += 1
+            self.narrow_text += text
 
 
 class File:
@@ -110,10 +117,11 @@ class Definitions:
         name = self.files[file].owners.get(name, name)
         return Key(file, name) if name in self.files[file].definitions else None
 
-    def cited_by(self, key):
+    def cited_by(self, key, is_narrow=False):
         """Yields what a definition cites."""
         file = self.files[key.file]
-        for name, member in WORD.findall(file.definitions[key.name].text):
+        found = file.definitions[key.name]
+        for name, member in WORD.findall(found.narrow_text if is_narrow else found.text):
             own = file.owners.get(name, name)
             if own in file.definitions:
                 yield Key(key.file, own)
@@ -122,7 +130,7 @@ class Definitions:
             elif name in file.modules and member:
                 yield self.find(file.modules[name], member)
 
-    def reached(self, keys):
+    def reached(self, keys, is_narrow=False):
         """Returns the definitions that these reach, themselves among them, and the types of the code that these cite."""
         found, types, left = set(), set(), list(keys)
         while left:
@@ -131,7 +139,7 @@ class Definitions:
                 types.add(key)
             elif key and key not in found:
                 found.add(key)
-                left += self.cited_by(key)
+                left += self.cited_by(key, is_narrow)
         return found, types
 
     def in_order(self, keys):
@@ -143,5 +151,6 @@ class Definitions:
             if file in by_file:
                 yield file, [name for name in self.files[file].definitions if name in by_file[file]]
 
-    def lines_of(self, keys):
-        return sum(self.files[key.file].definitions[key.name].lines for key in keys)
+    def lines_of(self, keys, is_narrow=False):
+        found = [self.files[key.file].definitions[key.name] for key in keys]
+        return sum(it.narrow_lines if is_narrow else it.lines for it in found)

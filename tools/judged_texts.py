@@ -1,7 +1,7 @@
 """Reading the texts of a block with what `tools/judged` tells of them: which statements a layer has, and what is read past."""
 from typing import List, NamedTuple, Optional
 
-from lefdef_text import Library, Words
+from lefdef_text import NARROW, Library, Words
 from lefdef_text.def_reader import SKIPPED_SECTIONS, DefReader, units_of
 from lefdef_text.design import Design
 from lefdef_text.lef_reader import LefReader
@@ -109,14 +109,14 @@ class NotedDefReader(DefReader):
 class Texts:
     """LEF texts and maybe a DEF, read: their words, the library, the statements of its layers, and the block."""
 
-    def __init__(self, design_path, library_paths):
+    def __init__(self, design_path, library_paths, profile=NARROW):
         self.library, self.rules, self.words = Library(), {}, []
         for path in library_paths:
             self.words.append(NotedWords(path))
-            LayerReader(self.words[-1], self.library, self.rules).read()
+            LayerReader(self.words[-1], self.library, self.rules).within(profile).read()
         self.design = self.reader = None
         if design_path is not None:
             self.words.append(NotedWords(design_path))
             units = units_of(self.words[-1])
-            self.reader = NotedDefReader(self.words[-1], Design(self.library.at(units), units))
+            self.reader = NotedDefReader(self.words[-1], Design(self.library.at(units), units)).within(profile)
             self.design = self.reader.read()

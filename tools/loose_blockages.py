@@ -48,11 +48,11 @@ class LooseBlockages:
                 text.numbers.pop(at, None)
             text.take_out(begin, text.at - 1)
 
-    def blockage_clause(self):
+    def blockage_clause(self, layer):
         text, begin = self.text, self.text.at
         word = text.words[begin + 1].upper()
         if word not in LOOSE or self.clause or not self.of_placement:
-            return super().blockage_clause()
+            return super().blockage_clause(layer)
         if not self.choices[word]:
             option = f'--{word.lower()}'
             text.refuse(f'{word} of a blockage is not supported: {option} drop takes the blockage out, and {option} hard makes a hard one of it', begin + 1,

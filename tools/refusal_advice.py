@@ -19,6 +19,12 @@ SYNTAX = 'The word is out of place, or what belongs before it is missing.'
 ADVICE = {
     'VIARULE of a via is not supported': ('The via is generated: it has the numbers of a rule in place of rectangles.',
                                           'tools/plain-vias writes its rectangles.'),
+    **{f'{word} of a generated via is not supported': ('A generated via has its numbers, and no shapes beside them.', NO_TOOL)
+       for word in ('RECT', 'POLYGON', 'PATTERNNAME', 'MASK')},
+    'the cuts of a via are an odd number of units wide or high': ('The middle of the cuts of a generated via is on a database unit.', MORE_UNITS),
+    'a square of one unit is not supported': ('A rectangle of a special net is read as wires, whose width is even.', NO_TOOL),
+    'components have the site of a row that is dropped': ('A row that is turned, or is of several rows, is read past where nothing can stand in it.',
+                                                          NO_TOOL),
     'PATTERNNAME of a via is not supported': ('Its cuts are those of a pattern, which is not read.', NO_TOOL),
     'POLYGON of a via is not supported': (RECTANGLES, NO_TOOL),
     'MASK of a via is not supported': (MASKS, NO_TOOL),
@@ -68,6 +74,9 @@ ADVICE = {
     'VIA in a geometry is not supported': (RECTANGLES, NO_TOOL),
     'RECT MASK is not supported': (MASKS, NO_TOOL),
     'RECT ITERATE is not supported': ('A rectangle is repeated in columns and rows.', 'tools/plain-lef writes each rectangle.'),
+    'POLYGON MASK is not supported': (MASKS, NO_TOOL),
+    'POLYGON ITERATE is not supported': ('A polygon is repeated in columns and rows.', 'tools/plain-lef writes each rectangle.'),
+    'POLYGON with a slanted side is not supported': (RECTANGLES, NO_TOOL),
     'EXCEPTPGNET is not supported': ('The obstruction does not keep out power and ground nets.', NO_TOOL),
     'SITE appears twice': ('A macro has one site.', NO_TOOL),
     'SITE of a macro with more than a name': ('A macro has one site, and no pattern of sites.', NO_TOOL),
@@ -101,13 +110,14 @@ class Advice:
     """What is said of the faults of texts, given the library and the block as far as they were read."""
 
     def __init__(self, faults, library, design):
-        self.texts, self.library, self.design = faults.texts, library, design
+        self.texts, self.library = faults.texts, library
+        self.why_not_good = {**library.why_not_good, **design.why_not_good}
 
     def why(self, refused):
         """Returns what is refused at a place, on one line."""
         why = refused.form if refused.kind == 'Unsupported' else refused.why
-        if refused.kind == 'BadVia':
-            why = f'{why}: {self.design.why_not_good[refused.word]}'
+        if refused.kind == 'BadVia' and refused.word in self.why_not_good:
+            why = f'{why}: {self.why_not_good[refused.word]}'
         elif refused.kind in ('Unexpected', 'EmptyRect') and refused.word not in why:
             why = f'{why}, at {refused.word[:40]}'
         return shown(' '.join(why.split()))
@@ -127,7 +137,7 @@ class Advice:
             reason = SYNTAX
         if refused.form.startswith('VIARULE of a via') and self.has_pattern(refused):
             reason, helps = 'The via is generated, and a pattern leaves cuts of it out.', NO_TOOL
-        if refused.kind == 'BadVia' and self.design.why_not_good[refused.word].endswith(' VIARULE'):
+        if refused.kind == 'BadVia' and self.why_not_good.get(refused.word, '').endswith(' VIARULE'):
             helps = 'tools/plain-lef writes the rectangles of a generated via.'
         return ''.join(f' {sentence}' for sentence in (reason, helps) if sentence)
 
@@ -152,6 +162,9 @@ class Advice:
         """Returns where a name is defined that was not known where it was used."""
         kind = refused.form.rpartition(' ')[2]
         place = self.place_of(kind, refused.word)
+        dropped = self.library.dropped.get(refused.word) if kind == 'macro' else None
+        if dropped:
+            return f'The macro is in {dropped.path}, and is dropped: in line {dropped.line}, {shown(dropped.why)}.'
         if place:
             return f'It is defined behind this place, in {place}: a name is defined before it is used, so give that LEF first.'
         if refused.form == 'a macro has no such pin':

@@ -18,6 +18,19 @@ def script(path):
     return module
 
 
+def narrow_cases():
+    """Returns the names of the cases of the program that are asked without options: tools that take none read their texts."""
+    names = []
+    for name in sorted(os.listdir(os.path.join(TOP, 'tests', 'program'))):
+        path = os.path.join(TOP, 'tests', 'program', name, 'words')
+        if os.path.exists(path):
+            with open(path, encoding='utf-8', errors='surrogateescape') as file:
+                if file.read(2) == '--':
+                    continue
+        names.append(name)
+    return names
+
+
 def expressions(heading):
     """Returns the regular expressions of the lines that a tool prints, from the section of docs/SCRIPTS.md with this heading."""
     with open(os.path.join(TOP, 'docs', 'SCRIPTS.md'), encoding='utf-8') as file:

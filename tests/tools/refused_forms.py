@@ -245,3 +245,32 @@ BAD_VIAS = (
     ('  LAYER m2 ; RECT', '  LAYER m3 ; RECT', 'another routing layer is between m1 and m3'),
     ('  LAYER v1 ; RECT', '  LAYER well ; RECT', 'its rectangles are not on two routing layers and one cut layer between them'),
 )
+# Forms that the wide profile refuses, the same: each in it, with masks refused and soft blockages too.
+GENERATED = '- big + VIARULE r + CUTSIZE 20 20 + LAYERS m1 v1 m2 + CUTSPACING 20 20 + ENCLOSURE 10 10 10 10'
+BIG = '- big + RECT m1 ( -50 -50 ) ( 50 50 ) + RECT v1 ( -50 -50 ) ( 50 50 ) + RECT m2 ( -50 -50 ) ( 50 50 )'
+WIDE_FORMS = (
+    *((BIG, f'{GENERATED} + {word} any', 8, 'Unsupported', f'{word} of a generated via is not supported. A generated via has its numbers, and no shapes beside them. {NO_TOOL}')
+      for word in ('RECT', 'POLYGON', 'PATTERNNAME', 'MASK')),
+    (BIG, GENERATED.replace('CUTSIZE 20', 'CUTSIZE 21'), 8, 'BadVia',
+     f'the cuts of a via are an odd number of units wide or high. The middle of the cuts of a generated via is on a database unit. {UNITS}'),
+    (BIG, GENERATED.replace('+ CUTSIZE 20 20 ', ''), 8, 'Unexpected', 'a generated via lacks CUTSIZE, at -.'),
+    (BIG, f'{GENERATED} + ROWCOL 73 137', 8, 'TooLarge', 'a via has more than 10,000 cuts.'),
+    (STRAP, '+ RECT m1 ( 0 0 ) ( 1 1 )', 23, 'Unsupported',
+     f'a square of one unit is not supported. A rectangle of a special net is read as wires, whose width is even. {NO_TOOL}'),
+    (STRAP, '+ MASK 1 + RECT m1 ( 0 0 ) ( 9 9 )', 23, 'Unsupported', f'MASK of a net is not supported. {MASKS} {NO_TOOL}'),
+    ('TRACKS X', 'ROW t core 0 0 W ;\nTRACKS X', 6, 'BadRow',
+     'components have the site core of a row that is turned, or of several rows. A row that is turned, or is of several rows, is read past where nothing can stand '
+     f'in it. {NO_TOOL}'),
+    ('- PLACEMENT RECT', '- PLACEMENT + SLOTS RECT', 18, 'Unsupported',
+     f'SLOTS of a blockage is not supported. The blockage keeps out slots, and no wires. {NO_BLOCKAGE}'),
+)
+# The same of a LEF: what is in place of the rectangle of a pin, of a macro without its end.
+WIDE_LEF_FORMS = (
+    ('POLYGON 0 0 1 0 1 1 ;', 'Unsupported', f'POLYGON with a slanted side is not supported. {RECTANGLES} {NO_TOOL}'),
+    ('POLYGON 0 0 1 0 1 0.5 1 0 ;', 'EmptyRect', 'a polygon has no area, at POLYGON.'),
+    ('POLYGON ;', 'EmptyRect', 'a polygon has no area, at POLYGON.'),
+    (f'POLYGON {"0 0 1 0 1 1 0 1 " * 250} 0 0 ;', 'TooLarge', 'a polygon has more than 1,000 points.'),
+    ('POLYGON MASK 1 0 0 1 0 1 1 0 1 ;', 'Unsupported', f'POLYGON MASK is not supported. {MASKS} {NO_TOOL}'),
+    ('POLYGON ITERATE 0 0 1 0 1 1 0 1 DO 2 BY 1 STEP 2 0 ;', 'Unsupported',
+     'POLYGON ITERATE is not supported. A polygon is repeated in columns and rows. tools/plain-lef writes each rectangle.'),
+)

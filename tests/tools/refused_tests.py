@@ -10,12 +10,12 @@ from unittest import mock
 sys.path.insert(0, os.path.dirname(os.path.abspath(__file__)))
 
 from doctored import TOP, expressions, script
-from refused_forms import BAD_VIAS, BLOCK, DEF_FORMS, LEF_FORMS, NO_LEF, NO_TOOL, OBS_RECT, OUT_OF_PLACE, PIN_RECT, RECTANGLES, STRAP, TECHNOLOGY, WIRE
+from refused_forms import BAD_VIAS, BLOCK, DEF_FORMS, LEF_FORMS, NO_LEF, NO_TOOL, OBS_RECT, OUT_OF_PLACE, PIN_RECT, RECTANGLES, STRAP, TECHNOLOGY, WIDE_FORMS, WIDE_LEF_FORMS, WIRE
 
 refused = script('tools/refused')
 
 import refusal_advice  # noqa: E402
-from lefdef_text import tolerant, tolerant_words  # noqa: E402
+from lefdef_text import NARROW, Profile, tolerant, tolerant_words  # noqa: E402
 
 STANDARD = os.path.join(TOP, 'examples', 'standard.lef')
 CELLS = os.path.join(TOP, 'tests', 'design', 'cells.lef')
@@ -26,6 +26,15 @@ EXPRESSIONS = expressions('What is refused')
 def lines_of(*path):
     with open(os.path.join(TOP, *path), encoding='utf-8', errors='surrogateescape') as file:
         return file.read().splitlines()
+
+
+def profile_of(words):
+    """Returns the profile that words of a command line ask for, and the words without its options."""
+    words, found = list(words), {}
+    while words and words[0].startswith('--') and (words[0] == '--wide' or len(words) > 1):
+        option = words.pop(0)
+        found[option] = True if option == '--wide' else words.pop(0)
+    return Profile('--wide' in found, '--masks' in found, found.get('--soft')), words
 
 
 class Room(unittest.TestCase):
@@ -42,9 +51,9 @@ class Room(unittest.TestCase):
             file.write(text)
         return name
 
-    def lines(self, design, *libraries):
+    def lines(self, design, *libraries, profile=NARROW):
         """Returns the lines on texts, and checks that the status goes with them, and that each is one that docs/SCRIPTS.md describes."""
-        lines, status = refused.lines_of(design, libraries)
+        lines, status = refused.lines_of(design, libraries, profile)
         self.assertEqual(status, 0 if lines == ['no form is refused'] else 2)
         for line in lines:
             self.assertEqual(len([it for it in EXPRESSIONS if re.fullmatch(it, line)]), 1, line)
@@ -96,13 +105,16 @@ class CorpusTests(Room):
         for text, line, kind in self.each_refused('library', '', 4):
             self.assert_first(self.of_library(text), 'cells.lef', line, kind)
 
-    def cases(self):
-        """Yields the files of each case of the program whose texts are kept, these by the numbers that are printed, and what it prints last. Of two
-        DEFs that are compared it is the second one, where the first is not the one that is refused."""
+    def cases(self, is_wide=False):
+        """Yields the files of each case of the program in the narrow profile, or in the wide one, whose texts are kept, these by the numbers that are
+        printed, and what it prints last. Of two DEFs that are compared it is the second one, where the first is not the one that is refused."""
         for name in sorted(os.listdir(CASES)):
             folder = os.path.join(CASES, name)
             words = lines_of('tests', 'program', name, 'words') if os.path.exists(os.path.join(folder, 'words')) else []
-            if len(words) > 2 and not os.path.exists(os.path.join(folder, 'out')) and all(os.path.isfile(os.path.join(folder, it)) for it in words[1:]):
+            self.profile, words = profile_of(words)
+            least = 3 if words[:1] == ['compare'] else 2
+            is_kept = all(os.path.isfile(os.path.join(folder, it)) for it in words[1:])
+            if self.profile.is_wide == is_wide and len(words) > least and is_kept and not os.path.exists(os.path.join(folder, 'out')):
                 printed = lines_of('tests', 'program', name, 'stdout') if os.path.exists(os.path.join(folder, 'stdout')) else []
                 os.chdir(folder)
                 with self.subTest(case=name):
@@ -113,9 +125,15 @@ class CorpusTests(Room):
                     yield defs[0 if is_of_first else -1], libraries, [*libraries, *defs], answer
 
     def test_cases_of_the_program(self):
+        for is_wide, least in ((False, (150, 20, 4)), (True, (100, 60, 1))):
+            kinds = self.kinds_of_cases(is_wide)
+            self.assertTrue(all(map(int.__ge__, (len(kinds), kinds.count('REFUSED'), kinds.count('SCALE')), least)), kinds)
+
+    def kinds_of_cases(self, is_wide):
+        """Tries the cases in a profile, and returns the first words of what the program prints last."""
         kinds = []
-        for design, libraries, texts, answer in self.cases():
-            lines = self.lines(design, *libraries)
+        for design, libraries, texts, answer in self.cases(is_wide):
+            lines = self.lines(design, *libraries, profile=self.profile)
             if answer[0] == 'REFUSED':
                 self.assert_first(lines, texts[int(answer[1])], answer[2], answer[3])
             elif answer[0] == 'SCALE':
@@ -123,20 +141,19 @@ class CorpusTests(Room):
             else:
                 self.assertEqual(lines, ['no form is refused'])
             kinds.append(answer[0])
-        self.assertGreater(kinds.count('REFUSED'), 20)
-        self.assertGreater(kinds.count('SCALE'), 3)
-        self.assertGreater(len(kinds), 150)
+        return kinds
 
-    def test_the_tool_that_helps_is_the_one_that_the_program_names(self):
+    def test_the_tool_that_helps_is_the_one_that_the_program_names_unless_it_names_the_wide_profile(self):
         found = set()
         for design, libraries, _, answer in self.cases():
             if answer[-1] == 'Unsupported':
                 with open('stderr', encoding='utf-8') as file:
                     said = file.read()
                 named = re.findall('tools/[a-z-]+', said)
-                self.assertEqual(named, re.findall('tools/[a-z-]+', self.lines(design, *libraries)[0]), said)
+                helps = re.findall('tools/[a-z-]+', self.lines(design, *libraries)[0])
+                self.assertEqual(named, [] if '--wide' in said else helps, said)
                 found.update(named)
-        self.assertEqual(found, {'tools/plain-vias', 'tools/plain-def', 'tools/plain-lef'})
+        self.assertEqual(found, {'tools/plain-def', 'tools/plain-lef'})
 
     def test_examples(self):
         for name in sorted(os.listdir(os.path.join(TOP, 'examples'))):
@@ -201,6 +218,13 @@ class FormTests(Room):
         met = set()
         for technology, block in (*texts, (TECHNOLOGY, self.BAD_VIA)):
             faults, _, _ = tolerant.read_faults(self.write('block.def', block), [self.write('tech.lef', technology)])
+            met.update(it.form for it in faults.found)
+        for old, new, *_ in WIDE_FORMS:
+            faults, _, _ = tolerant.read_faults(self.write('block.def', self.changed(BLOCK, old, new)), [self.write('tech.lef', TECHNOLOGY)], (), Profile(True))
+            met.update(it.form for it in faults.found)
+        for new, *_ in WIDE_LEF_FORMS:
+            technology = self.changed(TECHNOLOGY, PIN_RECT, new).replace('END INV', 'END INW')
+            faults, _, _ = tolerant.read_faults(self.write('block.def', BLOCK), [self.write('tech.lef', technology)], (), Profile(True))
             met.update(it.form for it in faults.found)
         self.assertEqual(set(refusal_advice.ADVICE) - met, {'there are more than 200,000 entries of COMPONENTS'})
 

@@ -13,6 +13,9 @@ from doctored import Doctored, script
 trusted = script('tools/trusted')
 SHORTS = 'crates/leg_rules/specs/Spacing/Violations.antt'
 SHARED = '  pub shared : SharePoint a.rect b.rect\n'
+VIAS = 'crates/leg_grammar/specs/Def/Via.antt'
+CUTS = 'crates/leg_grammar/specs/Def/CutArray.antt'
+AREA = 'area_of r = if is_area r then Some r else None'
 INTERVALS = 'crates/leg_geom/specs/Steps/Intervals.antt'
 PAGE, README = (f'{path} is not what tools/trusted writes' for path in ('docs/TRUSTED.md', 'README.md'))
 
@@ -46,6 +49,23 @@ class TrustedTests(unittest.TestCase):
         rules, measure = before
         self.assertEqual(self.row('The rules of `check`'), [rules[0] + 1, rules[1] + 1, *rules[2:]])
         self.assertEqual(self.row('`measure`'), measure)
+
+    def test_a_line_more_of_a_definition_of_the_wide_profile(self):
+        before = self.row('`check` of texts')
+        self.copy.edit(CUTS, AREA, AREA.replace(' = ', ' =\n    '))
+        self.assertEqual(self.lines(), (0, []))
+        lines, rooms, records, wide, *others = before
+        self.assertEqual(self.row('`check` of texts'), [lines + 1, rooms + 1, records, wide + 1, *others])
+
+    def test_a_clause_at_the_wide_profile_leads_to_all_that_the_narrow_one_does_not_need(self):
+        before = self.row('`check` of texts')
+        text = self.copy.read(VIAS)
+        clause = text.index('shapes_in (Wide masks soft)')
+        self.copy.write(VIAS, text[:clause] + text[text.index('\n\n', clause) + 1:])
+        self.assertEqual(self.lines(), (0, []))
+        lines, _, _, wide, *_ = self.row('`check` of texts')
+        self.assertGreater(before[3], wide)
+        self.assertEqual(before[0] - before[3], lines - wide)
 
     def test_comments_blank_lines_and_imports_do_not_count(self):
         self.copy.edit(SHORTS, SHARED, SHARED + '\n-- which is a point of both\n')

@@ -11,7 +11,9 @@ import xml.etree.ElementTree as ElementTree
 TOP = os.path.normpath(os.path.join(os.path.dirname(os.path.abspath(__file__)), '..', '..'))
 VIEW = os.path.join(TOP, 'tools', 'view')
 sys.path.insert(0, os.path.join(TOP, 'tools'))
+sys.path.insert(0, os.path.dirname(os.path.abspath(__file__)))
 from block_picture import MOST_IN_PATH  # noqa: E402
+from doctored import narrow_cases  # noqa: E402
 from lefdef_text import read_design, read_library, read_violations  # noqa: E402
 from violation_marks import Finder  # noqa: E402
 
@@ -262,7 +264,7 @@ class PictureTests(ViewCase):
 
     def test_each_block_of_the_cases_of_the_program_is_drawn(self):
         drawn = 0
-        for name in sorted(os.listdir(os.path.join(TOP, 'tests', 'program'))):
+        for name in narrow_cases():
             if not all(os.path.exists(case(name, file)) for file in ('block.def', 'cells.lef', 'stdout')):
                 continue
             with open(case(name, 'stdout'), encoding='utf-8') as file:
@@ -467,7 +469,7 @@ class MarkerTests(ViewCase):
 
     def test_each_list_of_the_cases_of_the_program(self):
         tried = 0
-        for name in sorted(os.listdir(os.path.join(TOP, 'tests', 'program'))):
+        for name in narrow_cases():
             if not all(os.path.exists(case(name, file)) for file in ('block.def', 'cells.lef', 'stdout', 'words')):
                 continue
             with open(case(name, 'stdout'), encoding='utf-8') as file:
@@ -582,7 +584,7 @@ class RefusalTests(ViewCase):
 
     def test_texts_that_lefdef_refuses_are_refused_at_the_same_line(self):
         tried = 0
-        for name in sorted(os.listdir(os.path.join(TOP, 'tests', 'program'))):
+        for name in narrow_cases():
             if not all(os.path.exists(case(name, file)) for file in ('stdout', 'words')) or os.path.exists(case(name, 'make')):
                 continue
             with open(case(name, 'stdout'), encoding='utf-8') as file:

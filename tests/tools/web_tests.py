@@ -17,7 +17,7 @@ from view_tests import STANDARD, TOP, UNFINISHED_LINES, case, example  # noqa: E
 
 sys.path.insert(0, os.path.join(TOP, 'tools'))
 from block_page import Changes, PageData  # noqa: E402
-from lefdef_text import read_design, read_library, read_violations  # noqa: E402
+from lefdef_text import Refused, read_design, read_library, read_violations  # noqa: E402
 from violation_marks import Finder  # noqa: E402
 from web_page import examples, page_text  # noqa: E402
 
@@ -101,6 +101,17 @@ class Case:
     def status(self):
         return int(self.file('status', b'0'))
 
+    def can_be_drawn(self):
+        """Returns whether the page reads the texts, if the program does: the page knows the forms of the narrow profile alone."""
+        if not self.profile['isWide'] or self.status() in (2, 4):
+            return True
+        design, *libraries, _ = self.paths()
+        try:
+            read_design(design, read_library(libraries))
+        except Refused:
+            return False
+        return True
+
     def picture(self):
         """Returns the data of the picture that is drawn of the case, as tools/view would have it, or None."""
         command, (design_path, *libraries, stdout) = self.words[0], self.paths()
@@ -136,7 +147,7 @@ def cases(room, is_made):
             continue
         found = Case(name, room)
         is_command = len(found.words) > 2 and found.words[0] in COMMANDS and found.status() != 64
-        if not os.path.exists(os.path.join(folder, 'out')) and is_command and all(map(os.path.isfile, found.paths()[:-1])):
+        if not os.path.exists(os.path.join(folder, 'out')) and is_command and all(map(os.path.isfile, found.paths()[:-1])) and found.can_be_drawn():
             yield found
 
 

@@ -2,8 +2,9 @@
 
     text = Words(path)                       the words of a text, each with its line
     library = read_library(paths)            layers, sites, vias and macros, in millionths of a micron
+    library = read_library(paths, profile)   the same in a profile: Profile(is_wide=True, drops_masks=True, soft='drop'), or NARROW
     library.at(units)                        the same in database units, of which `units` are a micron
-    design = read_design(path, library)      the block that a DEF denotes, in its database units
+    design = read_design(path, library)      the block that a DEF denotes, in its database units; read_design(path, library, profile) in a profile
     design.shapes()                          where its metal lies, and whose it is
     read_violations(path)                    the violations that `lefdef check` or `place-check` listed
     read_answer(path)                        whatever lefdef printed: its lines, violations, or the text of a design
@@ -25,13 +26,14 @@ from .lef_reader import read_library
 from .library import Layer, Library, Macro, MacroPin, Site, Via
 from .lines import FORMS, VIOLATION_LINES, Line, Violation, read_violations
 from .notes import message_of
+from .profile import NARROW, Profile
 from .rects import ORIENTATIONS, TURNS, Rect, grown, least_box, meets, moved, ordered, turned
 from .wiring import Wiring, wiring_of
 from .words import Refused, Words, read_text, shown
 
 __all__ = [
-    'Answer', 'Blockage', 'Component', 'Design', 'FORMS', 'Layer', 'Library', 'Line', 'Macro', 'MacroPin', 'Net', 'NotRun', 'ORIENTATIONS',
-    'Patch', 'Pin', 'Place', 'Port', 'Rect', 'Refusal', 'Refused', 'Row', 'Segment', 'Shape', 'Site', 'TURNS', 'Tracks', 'VIOLATION_LINES',
+    'Answer', 'Blockage', 'Component', 'Design', 'FORMS', 'Layer', 'Library', 'Line', 'Macro', 'MacroPin', 'NARROW', 'Net', 'NotRun', 'ORIENTATIONS',
+    'Patch', 'Pin', 'Place', 'Port', 'Profile', 'Rect', 'Refusal', 'Refused', 'Row', 'Segment', 'Shape', 'Site', 'TURNS', 'Tracks', 'VIOLATION_LINES',
     'Via', 'ViaAt', 'Violation', 'Wiring', 'Words', 'check', 'compare', 'finish', 'flow', 'grown', 'least_box', 'legalise', 'measure', 'meets',
     'message_of', 'moved', 'ordered', 'place_check', 'print_design', 'read_answer', 'read_design', 'read_library', 'read_text', 'read_violations',
     'route', 'run', 'shown', 'turned', 'wiring_of']

@@ -1,19 +1,21 @@
 """Reading a DEF text (docs/FORMATS.md, "DEF"); nets and their wiring are read by `net_reader`."""
-from .design import Blockage, Component, Design, Pin, Place, Port, Row, Tracks
-from .entries import EntryReader
+from .blockage_reader import BlockageReader
+from .design import Component, Design, Pin, Place, Port, Row, Tracks
+from .generated_via import GeneratedVia, is_generated
 from .library import Via, joined_layers, why_not_joined
 from .net_reader import NetReader
-from .rects import ORIENTATIONS
-from .words import GREATEST_NUMBER, Words
+from .profile import NARROW
+from .rects import ORIENTATIONS, moved
+from .words import GREATEST_NUMBER, WHOLE, Words, value_of
 
 GREATEST_UNITS = 20_000
 
 
-def read_design(path, library):
-    """Returns the design that a DEF text denotes under a library in millionths of a micron."""
+def read_design(path, library, profile=NARROW):
+    """Returns the design that a DEF text denotes in a profile, under a library in millionths of a micron."""
     text = Words(path)
     units = units_of(text)
-    return DefReader(text, Design(library.at(units), units)).read()
+    return DefReader(text, Design(library.at(units), units)).within(profile).read()
 
 
 def units_of(text):
@@ -34,18 +36,23 @@ SKIPPED_LINES = ('VERSION', 'NAMESCASESENSITIVE', 'TECHNOLOGY', 'HISTORY', 'GCEL
 SKIPPED_SECTIONS = ('PROPERTYDEFINITIONS', 'NONDEFAULTRULES', 'REGIONS', 'FILLS', 'SLOTS', 'STYLES', 'SCANCHAINS', 'GROUPS', 'PINPROPERTIES')
 
 
-class DefReader(EntryReader):
+class DefReader(BlockageReader):
     """Reads a DEF text into a design."""
     net_reader = NetReader
 
     def __init__(self, text, design):
         super().__init__(text, design)
         self.seen = set()
+        self.dropped_rows, self.rects_of_vias = [], 0
         self.nets = self.net_reader(text, design)
         self.forms = {'DIVIDERCHAR': self.kept_word, 'BUSBITCHARS': self.kept_word, 'DESIGN': self.design_name, 'UNITS': self.units,
                       'DIEAREA': self.die, 'ROW': self.row, 'TRACKS': self.tracks}
         self.sections = {'VIAS': self.via, 'COMPONENTS': self.component, 'PINS': self.pin, 'BLOCKAGES': self.blockage,
                          'SPECIALNETS': self.nets.special_net, 'NETS': self.nets.net}
+
+    def within(self, profile):
+        self.nets.within(profile)
+        return super().within(profile)
 
     def read(self):
         while (word := self.text.keyword()) != 'END':
@@ -70,7 +77,7 @@ class DefReader(EntryReader):
 
     def skip_form(self, word):
         text = self.text
-        if word in SKIPPED_LINES:
+        if word in SKIPPED_LINES or word == 'COMPONENTMASKSHIFT' and self.profile.drops_masks:
             text.skip_statement()
         elif word in SKIPPED_SECTIONS:
             text.skip_block(word)
@@ -89,12 +96,22 @@ class DefReader(EntryReader):
                 text.fault(f'{word} is missing', at)
         if text.more():
             text.fault('nothing may follow END DESIGN', text.at)
+        self.judge_dropped_rows()
         listed = self.design.net_of
         for pin in self.design.pins.values():
             entry = self.design.nets.get(pin.net) or self.design.special.get(pin.net)
             if ('PIN', pin.name) not in listed and entry:
                 entry.terminals['PIN', pin.name] = None
                 listed['PIN', pin.name] = entry.name
+
+    def judge_dropped_rows(self):
+        """Refuses the first row that was dropped and whose site a component's macro has."""
+        used = {component.macro.site for component in self.design.components.values()}
+        for site, at in self.dropped_rows:
+            if site in used:
+                self.text.fault(f'components have the site {site} of a row that is turned, or of several rows', at, 'BadRow',
+                                'components have the site of a row that is dropped')
+                break
 
     def kept_word(self):
         text = self.text
@@ -128,10 +145,15 @@ class DefReader(EntryReader):
         self.design.die = text.with_area(points[0] + points[1], begin)
 
     def row(self):
-        text = self.text
+        text, begin = self.text, self.text.at - 1
         name, site = text.name('the name of a row'), self.known('site', self.library.sites)
         at = text.at
         x, y, orientation, count = text.whole(), text.whole(), self.orientation(), 1
+        turned_at = text.at - 1
+        if self.profile.is_wide and self.is_row_dropped(orientation):
+            self.dropped_rows.append((site.name, turned_at if orientation in ('W', 'E', 'FW', 'FE') else text.at + 3))
+            self.rest_of_dropped_row(begin)
+            return
         if orientation in ('W', 'E', 'FW', 'FE'):
             text.fault(f'a row of orientation {orientation} is not supported', kind='BadRow', form='a row is turned')
         if text.peek() == 'DO':
@@ -145,6 +167,35 @@ class DefReader(EntryReader):
         else:
             text.expect(';')
         self.design.rows.append(Row(name, site.name, x, y, orientation, count))
+
+    def is_row_dropped(self, orientation):
+        """Returns whether a row of this orientation, behind which the words come next, is one that the wide profile drops."""
+        words, at = self.text.words, self.text.at
+        lines = words[at + 3] if [it.upper() for it in (words[at:at + 1] + words[at + 2:at + 3])] == ['DO', 'BY'] else '1'
+        return orientation in ('W', 'E', 'FW', 'FE') or bool(WHOLE.fullmatch(lines)) and value_of(lines) > 1
+
+    def rest_of_dropped_row(self, begin):
+        """Takes the rest of a row that is dropped."""
+        text = self.text
+        if text.peek() == 'DO':
+            self.counts_of_row()
+        if text.peek() == '+':
+            text.skip_statement()
+        else:
+            text.expect(';')
+        text.past('ROW, turned or of several rows', begin)
+
+    def counts_of_row(self):
+        """Takes what a row that is dropped says of its sites."""
+        text = self.text
+        for word in ('DO', 'BY'):
+            text.expect(word)
+            if text.whole() < 1:
+                text.refuse('a row has no site', kind='TooLarge')
+        if text.peek() == 'STEP':
+            text.expect('STEP')
+            text.whole()
+            text.whole()
 
     def row_sites(self, site):
         text = self.text
@@ -181,6 +232,8 @@ class DefReader(EntryReader):
             text.refuse('the step of tracks is too small', kind='TooLarge')
         if start + (count - 1) * step > GREATEST_NUMBER:
             text.refuse(f'the last track is beyond {GREATEST_NUMBER}', at, 'TooLarge')
+        if self.skip_mask() and text.peek() == 'SAMEMASK':
+            text.take()
         if text.peek() == 'MASK':
             text.refuse('MASK is not supported', text.at, 'Unsupported', 'MASK of tracks is not supported')
         if text.peek() == 'LAYER':
@@ -200,6 +253,9 @@ class DefReader(EntryReader):
     def via(self):
         text, shapes = self.text, []
         name = self.new_name('via', self.design.vias)
+        if self.profile.is_wide and is_generated(text):
+            self.keep_via(name, GeneratedVia(self).shapes())
+            return
 
         def clause(word):
             if word == 'RECT':
@@ -217,6 +273,7 @@ class DefReader(EntryReader):
         why = why_not_joined(self.library.layers, name, shapes)
         lower, upper = joined_layers(self.library.layers, shapes) if why is None else (None, None)
         self.design.vias[name] = Via(name, False, lower, upper, shapes)
+        self.rects_of_vias += len(shapes)
         if why is not None:
             self.design.why_not_good[name] = why
 
@@ -270,6 +327,8 @@ class DefReader(EntryReader):
             elif word in ('PLACED', 'FIXED', 'COVER'):
                 self.twice(word, port().place)
                 ports[-1] = ports[-1]._replace(status=word, place=self.place())
+            elif word == 'VIA' and self.profile.is_wide:
+                port().shapes.extend(self.via_of_pin())
             elif word in ('POLYGON', 'VIA', 'MASK'):
                 self.unread_pin_clause(word, port)
             else:
@@ -282,41 +341,23 @@ class DefReader(EntryReader):
         """Refuses a clause of a pin whose word was taken: its metal is not read. A call of `port` returns the port that has it."""
         self.text.refuse(f'{word} of a pin is not supported', kind='Unsupported')
 
-    def blockage(self):
-        """Takes an entry of BLOCKAGES, and keeps it unless its layer has no metal."""
-        text, layer, rects, begin = self.text, None, [], self.text.at - 1
-        if (word := text.keyword()) == 'LAYER':
-            layer = self.layer()
-        elif word != 'PLACEMENT':
-            text.unexpected('LAYER or PLACEMENT')
-        while text.peek() == '+':
-            self.blockage_clause()
-        while not rects or text.peek() != ';':
-            if text.peek() == 'POLYGON':
-                rects += self.blockage_polygon()
-                continue
-            text.expect('RECT')
-            rects.append(text.corners(self.point))
-        text.expect(';')
-        if layer is None or layer.has_metal():
-            self.design.blockages.append(Blockage(layer and layer.name, rects))
-        else:
-            text.past('BLOCKAGES LAYER without metal', begin)
-
-    def blockage_polygon(self):
-        """Refuses a polygon of a blockage, which comes next."""
-        self.text.refuse('POLYGON of a blockage is not supported', self.text.at, 'Unsupported')
-
-    def blockage_clause(self):
-        text, begin = self.text, self.text.at
-        text.expect('+')
-        if (word := text.keyword()) != 'PUSHDOWN':
-            text.refuse(f'{text.words[text.at - 1]} of a blockage is not supported', kind='Unsupported', form=f'{word} of a blockage is not supported')
-        text.past('BLOCKAGES + PUSHDOWN', begin)
+    def via_of_pin(self):
+        """Takes a good via and a point, and returns its rectangles there."""
+        text, at = self.text, self.text.at - 1
+        via = self.known('via', self.design.vias)
+        if not via.is_good():
+            self.bad_via(via)
+        self.skip_mask()
+        x, y = self.point()
+        shapes = [(layer, moved(rect, x, y)) for layer, rect in via.shapes]
+        if any(max(map(abs, rect)) > GREATEST_NUMBER for _, rect in shapes):
+            text.fault(f'a side of a via is beyond {GREATEST_NUMBER}', at, 'TooLarge')
+        return shapes
 
     def port_layer(self, port):
         text, begin = self.text, self.text.at - 1
         layer = self.layer()
+        self.skip_mask()
         if text.peek() == 'MASK':
             text.refuse('MASK is not supported', text.at, 'Unsupported', 'MASK of a pin is not supported')
         for word in ('SPACING', 'DESIGNRULEWIDTH'):

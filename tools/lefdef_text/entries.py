@@ -47,6 +47,10 @@ class EntryReader(Reader):
             text.fault(f'{kind} {name} appears twice', kind='DuplicateName', form=f'a {kind} appears twice')
         return name
 
+    def bad_via(self, via):
+        """Refuses the word that was taken last, the name of a via that is not good."""
+        self.text.fault(f'via {via.name} does not join two routing layers', kind='BadVia', form='a via does not join two routing layers')
+
     def twice(self, word, is_given):
         if is_given:
             self.text.refuse(f'{word} is given twice, or with a word that it excludes')

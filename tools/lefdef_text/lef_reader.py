@@ -1,31 +1,23 @@
 """Reading LEF texts (docs/FORMATS.md, "LEF")."""
+from .geometry_reader import Drawing, GeometryReader
 from .library import Layer, Library, Macro, MacroPin, Site, Via, joined_layers, why_not_joined
-from .reader import Reader
-from .words import Words
+from .profile import NARROW
+from .words import Refused, Words
 
 
-def read_library(paths):
-    """Returns the library that LEF texts, read one after the other, denote, in millionths of a micron."""
+def read_library(paths, profile=NARROW):
+    """Returns the library that LEF texts, read one after the other in a profile, denote, in millionths of a micron."""
     library = Library()
     for path in paths:
-        LefReader(Words(path), library).read()
+        LefReader(Words(path), library).within(profile).read()
     return library
 
 
-class Drawing:
-    """The rectangles that statements have drawn so far, and the layer of the next one."""
-
-    def __init__(self):
-        self.layer, self.shapes = None, []
-        self.why_not_good = None
-
-
-class LefReader(Reader):
+class LefReader(GeometryReader):
     """Reads one LEF text into a library."""
 
     def __init__(self, text, library):
-        super().__init__(text)
-        self.library = library
+        super().__init__(text, library)
         self.forms = {'LAYER': self.layer, 'VIA': self.via, 'SITE': self.site, 'MACRO': self.macro}
 
     def read(self):
@@ -176,11 +168,6 @@ class LefReader(Reader):
         self.library.layers.setdefault(name, Layer(
             name, found.get('TYPE'), found.get('DIRECTION'), found.get('WIDTH') if is_routing else None, spacing or 0))
 
-    def point(self):
-        """Takes two lengths, in parentheses or without."""
-        text = self.text
-        return text.point(text.length) if text.peek() == '(' else (text.length(), text.length())
-
     def via(self):
         text = self.text
         name = self.new_name(Via, self.library.vias)
@@ -199,7 +186,7 @@ class LefReader(Reader):
 
     def via_statement(self, word, drawing):
         text, begin = self.text, self.text.at - 1
-        form = 'RECT MASK' if word == 'RECT' and text.peek() == 'MASK' else word
+        form = 'RECT MASK' if word == 'RECT' and text.peek() == 'MASK' and not self.profile.drops_masks else word
         if form in ('VIARULE', 'POLYGON', 'RECT MASK'):
             drawing.why_not_good = drawing.why_not_good or f'it has the statement {form}'
             text.skip_statement()
@@ -211,6 +198,7 @@ class LefReader(Reader):
         elif not drawing.layer:
             text.refuse('RECT comes before any LAYER')
         elif drawing.layer.has_metal():
+            self.skip_mask()
             drawing.shapes.append((drawing.layer.name, text.corners(self.point)))
             text.expect(';')
         else:
@@ -251,6 +239,29 @@ class LefReader(Reader):
             self.skip('SITE', word)
 
     def macro(self):
+        """Takes a macro, or in the wide profile goes past one that is none."""
+        text, begin = self.text, self.text.at
+        try:
+            self.one_macro()
+        except Refused as refused:
+            if not self.profile.is_wide or not self.drop_macro(begin, refused):
+                raise
+
+    def drop_macro(self, begin, refused):
+        """Goes past a macro whose name is the word number `begin`, for what was refused in it; returns whether its name is new and its end is
+        there."""
+        text = self.text
+        name = text.words[begin]
+        end = next((at for at in range(begin + 1, text.count) if text.words[at].upper() == 'END' and text.words[at + 1] == name), None)
+        if end is None or name in self.library.macros or refused.at <= begin:
+            return False
+        text.at = end + 2
+        self.library.dropped.setdefault(name, refused)
+        self.library.places.pop((Macro, name), None)
+        text.past('MACRO, dropped', begin - 1)
+        return True
+
+    def one_macro(self):
         text, found = self.text, {}
         name = self.new_name(Macro, self.library.macros)
         pins, obstructions = {}, []
@@ -321,42 +332,3 @@ class LefReader(Reader):
             shapes += self.geometry('PORT')
         else:
             self.skip('PIN', word)
-
-    def geometry(self, block):
-        """Takes the geometry of a port or of obstructions, with its END, and returns its rectangles on layers with metal."""
-        drawing = Drawing()
-        self.statements(lambda word: self.geometry_statement(word, block, drawing))
-        return drawing.shapes
-
-    def geometry_statement(self, word, block, drawing):
-        text, begin = self.text, self.text.at - 1
-        if word == 'LAYER':
-            drawing.layer = self.geometry_layer(block)
-        elif word not in ('RECT', 'WIDTH', 'CLASS', 'POLYGON', 'PATH', 'VIA'):
-            text.unexpected('a form of a geometry')
-        elif word in ('WIDTH', 'CLASS'):
-            self.skip(block, word)
-        elif drawing.layer and not drawing.layer.has_metal():
-            text.skip_statement()
-            text.past(f'{block} {word} on a layer without metal', begin)
-        elif word != 'RECT':
-            text.refuse(f'{word} in a geometry is not supported', kind='Unsupported')
-        elif not drawing.layer:
-            text.refuse('RECT comes before any LAYER')
-        elif text.peek() in ('MASK', 'ITERATE'):
-            text.refuse(f'RECT {text.peek()} is not supported', text.at, 'Unsupported')
-        else:
-            drawing.shapes.append((drawing.layer.name, text.corners(self.point)))
-            text.expect(';')
-
-    def geometry_layer(self, block):
-        """Takes a LAYER statement of a geometry; the words after the name are read past."""
-        text = self.text
-        layer, begin = self.known('layer', self.library.layers), text.at
-        while text.peek() != ';':
-            if text.word('a word').upper() == 'EXCEPTPGNET':
-                text.fault('EXCEPTPGNET is not supported', kind='Unsupported')
-        if text.at > begin:
-            text.past(f'{block} LAYER {text.words[begin].upper()}', begin)
-        text.expect(';')
-        return layer

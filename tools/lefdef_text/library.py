@@ -2,7 +2,7 @@
 from typing import Dict, List, NamedTuple, Optional, Tuple
 
 from .rects import ORIENTATIONS, Rect, moved
-from .words import GREATEST_NUMBER
+from .words import GREATEST_NUMBER, Refused
 
 WIRING_WORDS = frozenset(('NEW', 'RECT', 'TAPER', 'TAPERRULE', 'STYLE', 'MASK', 'VIRTUAL', 'DO') + ORIENTATIONS)
 LayerRect = Tuple[str, Rect]
@@ -60,8 +60,8 @@ class Macro(NamedTuple):
 
 
 class Library:
-    """Layers (bottom up), sites, vias and macros by their names, in the order in which they were defined; and why the vias that are not
-    good are not."""
+    """Layers (bottom up), sites, vias and macros by their names, in the order in which they were defined; why the vias that are not good
+    are not; and for what the macros that the wide profile has dropped are none."""
 
     def __init__(self):
         self.layers: Dict[str, Layer] = {}
@@ -70,6 +70,7 @@ class Library:
         self.macros: Dict[str, Macro] = {}
         self.places = {}
         self.why_not_good: Dict[str, str] = {}
+        self.dropped: Dict[str, Refused] = {}
 
     def routing(self):
         return [layer for layer in self.layers.values() if layer.is_routing()]
@@ -78,7 +79,7 @@ class Library:
         """Returns the library in database units, of which `units` are a micron, with each macro's origin added to its shapes. The lengths
         are those of `scale`, or exact."""
         library = Library()
-        library.why_not_good = self.why_not_good
+        library.why_not_good, library.dropped = self.why_not_good, self.dropped
         scale = scale or Scale(self, units)
         for layer in self.layers.values():
             width = scale.of(layer.width, layer) if layer.is_routing() else None

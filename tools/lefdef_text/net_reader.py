@@ -1,6 +1,7 @@
 """Reading the nets of a DEF text and their wiring (docs/FORMATS.md, "Nets" and "Wiring")."""
 from .design import Net, Patch, Segment, ViaAt
 from .entries import EntryReader
+from .figures import WideWiring
 from .rects import ORIENTATIONS
 
 UNREAD_NET_CLAUSES = ('NONDEFAULTRULE', 'SUBNET', 'VPIN', 'TAPERRULE', 'STYLE', 'MASK', 'VIRTUAL')
@@ -8,7 +9,7 @@ UNREAD_NET_CLAUSES = ('NONDEFAULTRULE', 'SUBNET', 'VPIN', 'TAPERRULE', 'STYLE', 
 UNREAD_IN_WIRING = {'TAPERRULE': 1, 'STYLE': 1, 'MASK': 1, 'VIRTUAL': 0, 'DO': 6}
 
 
-class NetReader(EntryReader):
+class NetReader(WideWiring, EntryReader):
     """Reads entries of NETS and SPECIALNETS."""
 
     def net(self):
@@ -31,10 +32,13 @@ class NetReader(EntryReader):
                 if word == 'SHIELD':
                     text.name('the name of a net')
                     text.past('SPECIALNETS + SHIELD, the name of its net', text.at - 1)
-                self.wiring(net.wires, is_special)
+                if not (is_special and self.is_before_figure()):
+                    self.wiring(net.wires, is_special)
             elif word == 'USE':
                 self.twice(word, net.use)
                 net.use = text.word('a use')
+            elif is_special and self.is_figure(word):
+                self.wide_figure(word, net.wires)
             elif word in UNREAD_NET_CLAUSES or is_special and word in ('RECT', 'POLYGON', 'VIA'):
                 self.unread_clause(word, net, is_special)
             else:
@@ -109,6 +113,8 @@ class NetReader(EntryReader):
         x, y, extension = self.path_point(None)
         ends_here = None
         while (word := text.words[text.at]) not in ('+', ';') and word.upper() != 'NEW':
+            if self.skip_mask():
+                word = text.words[text.at]
             if word == '(':
                 begin = text.at
                 to_x, to_y, given = self.path_point((x, y))
@@ -124,6 +130,10 @@ class NetReader(EntryReader):
                 ends_here = len(wires)
                 wires.append(Segment(layer.name, x, y, to_x, to_y, width, half if extension is None else extension, half))
                 x, y, extension = to_x, to_y, given
+            elif word.upper() == 'VIRTUAL' and self.profile.is_wide and not is_special:
+                self.settle(wires, ends_here, extension)
+                x, y = self.virtual_point((x, y))
+                extension = ends_here = None
             elif word.upper() == 'RECT' and not is_special:
                 wires.append(Patch(layer.name, x, y, self.patch()))
             else:
@@ -175,13 +185,7 @@ class NetReader(EntryReader):
         """Takes a point of a path and its extension, None where none is written; `last` is the point before, if there is one."""
         text = self.text
         text.expect('(')
-        numbers = []
-        for axis in (0, 1):
-            if last and text.words[text.at] == '*':
-                text.take()
-                numbers.append(last[axis])
-            else:
-                numbers.append(text.whole())
+        numbers = [self.coordinate(last, axis) for axis in (0, 1)]
         extension = None
         if text.words[text.at] != ')':
             extension = text.whole()
@@ -219,11 +223,14 @@ class NetReader(EntryReader):
         if word in ('RECT', 'TAPER', 'N'):
             text.unexpected('a via')
         via = self.design.vias[name] if name in self.design.vias else self.unknown('via', name)
-        beyond = self.beyond(via, layer)
-        wires.append(ViaAt(via, x, y))
+        beyond, at = self.beyond(via, layer), text.at - 1
         if text.peek() == 'N':
             text.take()
             text.past(f'{self.section_of(is_special)} N after a via', text.at - 1)
+        if is_special and self.profile.is_wide and text.peek() == 'DO':
+            wires += self.array_of(via, (x, y), at)
+        else:
+            wires.append(ViaAt(via, x, y))
         return beyond
 
     def beyond(self, via, layer):
@@ -237,4 +244,4 @@ class NetReader(EntryReader):
         if via.is_good():
             self.text.fault(f'via {via.name} does not begin on {layer.name}', kind='ViaLayer', form='a via does not begin on the layer of its path')
         else:
-            self.text.fault(f'via {via.name} does not join two routing layers', kind='BadVia', form='a via does not join two routing layers')
+            self.bad_via(via)

@@ -1,6 +1,6 @@
 """Reading LEF and DEF texts past their faults, which are kept in their order.
 
-    faults, library, design = read_faults(design_path, library_paths, strangers)
+    faults, library, design = read_faults(design_path, library_paths, strangers, profile)
 
 The readers are those of this folder. Where one of them refuses a word, the refusal is kept, and reading goes on at the next statement,
 entry, clause, terminal or path. What is not there takes a stand-in, of which no further fault is kept: so the first refusal is the one
@@ -11,6 +11,7 @@ from .design import Component, Design, Pin
 from .lef_reader import LefReader
 from .library import Layer, Library, Macro, Scale, Site, Via
 from .net_reader import UNREAD_IN_WIRING, NetReader
+from .profile import NARROW
 from .tolerant_words import Faults, TolerantWords
 from .words import MARKS, Refused, millionths_of
 
@@ -20,7 +21,7 @@ MILLIONTHS = 10 ** 6
 # A width of a routing layer that is even at any number of units, where the text gives none above 0.
 SOME_WIDTH = 2 * MILLIONTHS
 # The statements of a record whose lengths are converted.
-CONVERTED = {Layer: ('WIDTH', 'SPACING', 'SPACINGTABLE'), Site: ('SIZE',), Macro: ('SIZE', 'ORIGIN', 'RECT'), Via: ('RECT',)}
+CONVERTED = {Layer: ('WIDTH', 'SPACING', 'SPACINGTABLE'), Site: ('SIZE',), Macro: ('SIZE', 'ORIGIN', 'RECT', 'POLYGON'), Via: ('RECT',)}
 # What stands in for what is not there.
 NO_LAYER = Layer('', None, None, 2, 0)
 STAND_INS = {
@@ -89,6 +90,29 @@ class TolerantLefReader(TolerantReader, LefReader):
         if faults.met > before:
             faults.doubtful_vias.add(name)
 
+    def macro(self):
+        """Takes a macro; in the wide profile one with a fault is dropped, and its faults are not kept."""
+        if not self.profile.is_wide:
+            return super().macro()
+        faults, begin, mark = self.text.faults, self.text.at, self.text.faults.mark()
+        is_known, refused = self.text.words[begin] in self.library.macros, None
+        try:
+            self.one_macro()
+        except Refused as fault:
+            refused = fault
+        first = (faults.found[mark[0]:] + [refused])[0]
+        name = self.text.words[begin]
+        if first is None:
+            return None
+        macro = None if is_known else self.library.macros.pop(name, None)
+        if self.drop_macro(begin, first):
+            return faults.back_to(mark)
+        if macro:
+            self.library.macros[name] = macro
+        if refused:
+            raise refused
+        return None
+
 
 class TolerantScale(Scale):
     """Lengths of a library, of which those that are not exact are kept, at the words that write them; at some units if none are known."""
@@ -134,6 +158,10 @@ class TolerantEntries(TolerantReader):
                 clause(text.word('the word of a clause').upper())
             except Refused as refused:
                 self.go_on_in_entry(refused, begin, ('+', ';'))
+
+    def bad_via(self, via):
+        if via.name in self.design.vias and via.name not in self.text.faults.doubtful_vias:
+            super().bad_via(via)
 
     def go_on_in_entry(self, refused, begin, stops, behind=''):
         """Goes on within an entry, or refuses it where its end is missing."""
@@ -340,13 +368,13 @@ def keep_first(faults, own):
         faults.are_names_lost = True
 
 
-def read_faults(design_path, library_paths, strangers=()):
-    """Returns the faults of texts in the order in which lefdef looks for them, the library, and the design as far as it was read. Of texts
-    that are `strangers`, since they seem to be none of their format, the first fault is kept alone."""
+def read_faults(design_path, library_paths, strangers=(), profile=NARROW):
+    """Returns the faults of texts in a profile, in the order in which lefdef looks for them, the library, and the design as far as it was read.
+    Of texts that are `strangers`, since they seem to be none of their format, the first fault is kept alone."""
     faults, library = Faults(), Library()
     for path in library_paths:
         text = TolerantWords(path, Faults() if path in strangers else faults)
-        TolerantLefReader(text, library).read()
+        TolerantLefReader(text, library).within(profile).read()
         if path in strangers:
             keep_first(faults, text.faults)
             text.faults = faults
@@ -354,7 +382,7 @@ def read_faults(design_path, library_paths, strangers=()):
     text = TolerantWords(design_path, Faults() if design_path in strangers else faults)
     scale = TolerantScale(library, units_or_none(text))
     scaled = library.at(scale.units, scale)
-    design = TolerantDefReader(text, Design(scaled, scale.units), scale).read()
+    design = TolerantDefReader(text, Design(scaled, scale.units), scale).within(profile).read()
     if design_path in strangers:
         keep_first(faults, text.faults)
     faults.texts[design_path] = text

@@ -21,6 +21,15 @@ class Faults:
         self.lost_names, self.are_names_lost = set(), False
         self.doubtful_vias = set()
 
+    def mark(self):
+        """Returns what is kept so far, for `back_to`."""
+        return len(self.found), set(self.places), self.met, len(self.unread), set(self.lost_names), self.are_names_lost, set(self.doubtful_vias)
+
+    def back_to(self, mark):
+        """Forgets what was kept since a mark."""
+        found, self.places, self.met, unread, self.lost_names, self.are_names_lost, self.doubtful_vias = mark
+        del self.found[found:], self.unread[unread:]
+
     def keep(self, refused):
         """Keeps a fault, unless it is there already, or is that of a name which may have been defined in what was not looked at."""
         self.met += 1

@@ -14,7 +14,6 @@ use Rattle.leg_app_input.specs.declared.command.Command.{Command}
 use Rattle.leg_app_input.specs.declared.command.Command.TheVariants.{PlaceCheck, Check, Route, Flow, Finish}
 use Rattle.leg_app.specs.declared.status.Status.{Status}
 use Rattle.leg_app.specs.declared.status.Status.TheVariants.{Success, Refused, Memory}
-use Rattle.leg_grammar.specs.declared.profile.Profile.TheVariants.{Narrow}
 use Rattle.leg_grammar.specs.declared.profile.Profile.{Profile}
 use Rattle.leg_grammar.specs.Texts.{DenoteDesign}
 use Rattle.leg_output.specs.Commands.Check.{legal_text}
@@ -95,61 +94,63 @@ finished_library : (before after : DesignModel) → Finishes before after → af
 finished_library before after finishes = ap (λ d. d.library) finishes.same.rest
 
 -- What `route`, `legalise`, `flow` and `finish` print.
-module _ (says_design : SaysItsDesign) (says_units : SaysItsUnits) (lefs : List (List ℕ)) (def text : List ℕ) (library : LibraryModel) (design : DesignModel)
-    (say : DenoteDesign Narrow lefs def library design) where
+module _ (says_design : SaysItsDesign) (says_units : SaysItsUnits) (profile : Profile) (lefs : List (List ℕ)) (def text : List ℕ)
+    (library : LibraryModel) (design : DesignModel) (say : DenoteDesign profile lefs def library design) where
   pub routed_said : (printed : PrintsRouted design text) → StayOne (printed_names printed.routed) → length text ≤ TEXT_LIMIT
-      → DenoteDesign Narrow lefs text printed.routed.library printed.routed
+      → DenoteDesign profile lefs text printed.routed.library printed.routed
   routed_said printed one fits =
       let routes = printed.routes in
-      said_again says_design says_units lefs def text library design printed.routed say
+      said_again says_design says_units profile lefs def text library design printed.routed say
       (routed_library design printed.routed routes) routes.sound routes.proper one printed.is fits
 
   pub legalised_said : (printed : PrintsLegalised design text) → StayOne (printed_names printed.legalised) → length text ≤ TEXT_LIMIT
-      → DenoteDesign Narrow lefs text printed.legalised.library printed.legalised
+      → DenoteDesign profile lefs text printed.legalised.library printed.legalised
   legalised_said printed one fits =
       let legalises = printed.legalises in
-      said_with_moves says_design says_units lefs def text library design printed.legalised say
+      said_with_moves says_design says_units profile lefs def text library design printed.legalised say
       (legalised_library design printed.legalised legalises) legalises.sound legalises.proper one
       printed.distances printed.total printed.greatest printed.is fits
 
   pub flow_said : (printed : PrintsFlow design text) → StayOne (printed_names printed.routed) → length text ≤ TEXT_LIMIT
-      → DenoteDesign Narrow lefs text printed.routed.library printed.routed
+      → DenoteDesign profile lefs text printed.routed.library printed.routed
   flow_said printed one fits =
       let routes = printed.routes in
       let same = routed_library printed.legalised printed.routed routes ∙ legalised_library design printed.legalised printed.legalises in
-      said_with_moves says_design says_units lefs def text library design printed.routed say same routes.sound routes.proper one
+      said_with_moves says_design says_units profile lefs def text library design printed.routed say same routes.sound routes.proper one
       printed.distances printed.total printed.greatest printed.is fits
 
   pub finished_said : (printed : PrintsFinished design text) → StayOne (printed_names printed.finished) → length text ≤ TEXT_LIMIT
-      → DenoteDesign Narrow lefs text printed.finished.library printed.finished
+      → DenoteDesign profile lefs text printed.finished.library printed.finished
   finished_said printed one fits =
       let finishes = printed.finishes in
-      said_with_wires says_design says_units lefs def text library design printed.finished say
+      said_with_wires says_design says_units profile lefs def text library design printed.finished say
       (finished_library design printed.finished finishes) finishes.sound finishes.proper one
       printed.length printed.vias printed.is fits
 
-  pub design_said : PrintsDesign design text → StayOne (printed_names design) → length text ≤ TEXT_LIMIT → DenoteDesign Narrow lefs text library design
+  pub design_said : PrintsDesign design text → StayOne (printed_names design) → length text ≤ TEXT_LIMIT → DenoteDesign profile lefs text library design
   design_said printed one fits =
-      said_under Narrow lefs def library design say text design refl
-      (said_again says_design says_units lefs def text library design design say refl printed.sound printed.proper one printed.is fits)
+      said_under profile lefs def library design say text design refl
+      (said_again says_design says_units profile lefs def text library design design say refl printed.sound printed.proper one printed.is fits)
 
   module _ (one_answer : HasOneAnswer) where
     pub routed_legal : (printed : PrintsRouted design text) → StayOne (printed_names printed.routed) → length text ≤ TEXT_LIMIT
-        → AnswersLegal Check Narrow lefs text
+        → AnswersLegal Check profile lefs text
     routed_legal printed one fits =
         let routes = printed.routes in
-        legal_answered one_answer Narrow lefs text printed.routed (routed_said printed one fits) routes.legal
+        legal_answered one_answer profile lefs text printed.routed (routed_said printed one fits) routes.legal
 
     pub legalised_placed : (printed : PrintsLegalised design text) → StayOne (printed_names printed.legalised) → length text ≤ TEXT_LIMIT
-        → AnswersLegal PlaceCheck Narrow lefs text
-    legalised_placed printed one fits = placed_answered one_answer Narrow lefs text printed.legalised (legalised_said printed one fits) printed.legalises.legal
+        → AnswersLegal PlaceCheck profile lefs text
+    legalised_placed printed one fits =
+        placed_answered one_answer profile lefs text printed.legalised (legalised_said printed one fits) printed.legalises.legal
 
     pub flow_legal : (printed : PrintsFlow design text) → StayOne (printed_names printed.routed) → length text ≤ TEXT_LIMIT
-        → AnswersLegal Check Narrow lefs text
+        → AnswersLegal Check profile lefs text
     flow_legal printed one fits =
         let routes = printed.routes in
-        legal_answered one_answer Narrow lefs text printed.routed (flow_said printed one fits) routes.legal
+        legal_answered one_answer profile lefs text printed.routed (flow_said printed one fits) routes.legal
 
     pub finished_legal : (printed : PrintsFinished design text) → StayOne (printed_names printed.finished) → length text ≤ TEXT_LIMIT
-        → AnswersLegal Check Narrow lefs text
-    finished_legal printed one fits = legal_answered one_answer Narrow lefs text printed.finished (finished_said printed one fits) printed.finishes.legal
+        → AnswersLegal Check profile lefs text
+    finished_legal printed one fits =
+        legal_answered one_answer profile lefs text printed.finished (finished_said printed one fits) printed.finishes.legal

@@ -176,29 +176,34 @@ is_turn word =
     is_keyword (codes "S") word || is_keyword (codes "W") word || is_keyword (codes "E") word || is_keyword (codes "FN") word
     || is_keyword (codes "FS") word || is_keyword (codes "FW") word || is_keyword (codes "FE") word
 
--- the tool that writes a form of a DEF in another way, by the word for which it is not supported
-abbrev pub def_tool_text : List ℕ → List ℕ
-def_tool_text word =
-    if is_keyword (codes "VIARULE") word then codes ": tools/plain-vias writes such a via as rectangles, if it has no PATTERN"
+-- what reads a form of a DEF, by the word for which it is not supported: an option, or a tool that writes it in another way
+abbrev pub def_remedy : List ℕ → List ℕ
+def_remedy word =
+    if is_keyword (codes "VIARULE") word then codes ": with --wide before the command such a via is read"
+    else (if is_keyword (codes "DO") word then codes ": with --wide before the command an array of vias is read in SPECIALNETS"
+    else (if is_keyword (codes "RECT") word || is_keyword (codes "VIA") word then codes ": with --wide before the command it is read in SPECIALNETS and PINS"
+    else (if is_keyword (codes "VIRTUAL") word then codes ": with --wide before the command it is read in NETS"
+    else (if is_keyword (codes "COMPONENT") word || is_keyword (codes "SLOTS") word || is_keyword (codes "FILLS") word then codes ": with --wide before the command it is read"
+    else (if is_keyword (codes "MASK") word then codes ": with --wide --masks drop before the command it is read past"
+    else (if is_keyword (codes "SOFT") word || is_keyword (codes "PARTIAL") word then codes ": with --wide --soft drop before the command such a blockage is taken out, and with --wide --soft hard it is one as any other"
     else (if is_keyword (codes "NONDEFAULTRULE") word || is_keyword (codes "TAPERRULE") word then codes ": tools/plain-def writes paths of such a rule as rectangles and vias of its widths"
     else (if is_keyword (codes "POLYGON") word then codes ": tools/plain-def writes rectilinear polygons of PINS, BLOCKAGES and SPECIALNETS as rectangles or wires"
-    else (if is_keyword (codes "RECT") word || is_keyword (codes "VIA") word then codes ": tools/plain-def writes it as rectangles or wires"
-    else (if is_keyword (codes "DO") word then codes ": tools/plain-def writes each via of such an array in SPECIALNETS"
     else (if is_turn word then codes ": tools/plain-def writes a via that is turned as a via of its own"
-    else (if is_keyword (codes "SOFT") word then codes ": tools/plain-def takes a soft blockage of PLACEMENT out (--soft drop), or makes a hard one of it (--soft hard)"
-    else (if is_keyword (codes "PARTIAL") word then codes ": tools/plain-def takes a partial blockage of PLACEMENT out (--partial drop), or makes a hard one of it (--partial hard)"
-    else [])))))))
+    else [])))))))))
 
 -- the same of a LEF
-abbrev pub lef_tool_text : List ℕ → List ℕ
-lef_tool_text word =
-    if is_keyword (codes "POLYGON") word then codes ": tools/plain-lef writes rectilinear polygons as rectangles"
+abbrev pub lef_remedy : List ℕ → List ℕ
+lef_remedy word =
+    if is_keyword (codes "POLYGON") word then codes ": with --wide before the command it is read, if it is rectilinear"
     else (if is_keyword (codes "ITERATE") word then codes ": tools/plain-lef writes each rectangle of such an array"
-    else [])
+    else (if is_keyword (codes "EXCEPTPGNET") word then codes ": with --wide before the command it is read past"
+    else (if is_keyword (codes "MASK") word then codes ": with --wide --masks drop before the command it is read past"
+    else (if is_keyword (codes "PATH") word || is_keyword (codes "VIA") word then codes ": with --wide before the command a macro that has it is left out"
+    else []))))
 
 -- what to do about a fault of this kind, by the word at fault, in a LEF or else in a DEF
 abbrev pub advice_on : FaultKind → Bool → List ℕ → List ℕ
-advice_on kinds.Unsupported is_lef word = if is_lef then lef_tool_text word else def_tool_text word
+advice_on kinds.Unsupported is_lef word = if is_lef then lef_remedy word else def_remedy word
 advice_on kind is_lef word = []
 
 -- a length that isn't one in database units

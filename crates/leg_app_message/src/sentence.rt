@@ -3,7 +3,7 @@
 ghost use Rattle.std.specs.Prelude.{◌≡◌, ◌==◌, ◌++◌, codes, decimal, OnOk};
 ghost use Rattle.leg_app_message.specs.Texts.{path_of};
 ghost use Rattle.std.specs.List.{list_any};
-ghost use Rattle.leg_app_message.specs.Sentence.{end_text, before_of, after_of, point_text, name_text, known_text, most_text, rename_text, first_text, master_text, middle_text, last_text, need_text, is_turn, def_tool_text, lef_tool_text, advice_on, scale_sentence_of};
+ghost use Rattle.leg_app_message.specs.Sentence.{end_text, before_of, after_of, point_text, name_text, known_text, most_text, rename_text, first_text, master_text, middle_text, last_text, need_text, is_turn, def_remedy, lef_remedy, advice_on, scale_sentence_of};
 
 use crate::text_line::push_shown_bytes;
 use crate::texts::Texts;
@@ -308,39 +308,52 @@ fn is_turn(word: &[u8]) -> bool
         || is_keyword(b"FE", word)
 }
 
-/// The tool that writes a form of a DEF in another way, by the word for which it is not supported.
-fn def_tool_text(word: &[u8]) -> &'static [u8]
-    ensures { result.now ≡ def_tool_text word.now }
+/// What reads a form of a DEF, by the word for which it is not supported: an option, or a tool that writes it in another way.
+fn def_remedy(word: &[u8]) -> &'static [u8]
+    ensures { result.now ≡ def_remedy word.now }
 {
     if is_keyword(b"VIARULE", word) {
-        b": tools/plain-vias writes such a via as rectangles, if it has no PATTERN"
+        b": with --wide before the command such a via is read"
+    } else if is_keyword(b"DO", word) {
+        b": with --wide before the command an array of vias is read in SPECIALNETS"
+    } else if is_keyword(b"RECT", word) || is_keyword(b"VIA", word) {
+        b": with --wide before the command it is read in SPECIALNETS and PINS"
+    } else if is_keyword(b"VIRTUAL", word) {
+        b": with --wide before the command it is read in NETS"
+    } else if is_keyword(b"COMPONENT", word)
+        || is_keyword(b"SLOTS", word)
+        || is_keyword(b"FILLS", word)
+    {
+        b": with --wide before the command it is read"
+    } else if is_keyword(b"MASK", word) {
+        b": with --wide --masks drop before the command it is read past"
+    } else if is_keyword(b"SOFT", word) || is_keyword(b"PARTIAL", word) {
+        b": with --wide --soft drop before the command such a blockage is taken out, and with --wide --soft hard it is one as any other"
     } else if is_keyword(b"NONDEFAULTRULE", word) || is_keyword(b"TAPERRULE", word) {
         b": tools/plain-def writes paths of such a rule as rectangles and vias of its widths"
     } else if is_keyword(b"POLYGON", word) {
         b": tools/plain-def writes rectilinear polygons of PINS, BLOCKAGES and SPECIALNETS as rectangles or wires"
-    } else if is_keyword(b"RECT", word) || is_keyword(b"VIA", word) {
-        b": tools/plain-def writes it as rectangles or wires"
-    } else if is_keyword(b"DO", word) {
-        b": tools/plain-def writes each via of such an array in SPECIALNETS"
     } else if is_turn(word) {
         b": tools/plain-def writes a via that is turned as a via of its own"
-    } else if is_keyword(b"SOFT", word) {
-        b": tools/plain-def takes a soft blockage of PLACEMENT out (--soft drop), or makes a hard one of it (--soft hard)"
-    } else if is_keyword(b"PARTIAL", word) {
-        b": tools/plain-def takes a partial blockage of PLACEMENT out (--partial drop), or makes a hard one of it (--partial hard)"
     } else {
         b""
     }
 }
 
 /// The same of a LEF.
-fn lef_tool_text(word: &[u8]) -> &'static [u8]
-    ensures { result.now ≡ lef_tool_text word.now }
+fn lef_remedy(word: &[u8]) -> &'static [u8]
+    ensures { result.now ≡ lef_remedy word.now }
 {
     if is_keyword(b"POLYGON", word) {
-        b": tools/plain-lef writes rectilinear polygons as rectangles"
+        b": with --wide before the command it is read, if it is rectilinear"
     } else if is_keyword(b"ITERATE", word) {
         b": tools/plain-lef writes each rectangle of such an array"
+    } else if is_keyword(b"EXCEPTPGNET", word) {
+        b": with --wide before the command it is read past"
+    } else if is_keyword(b"MASK", word) {
+        b": with --wide --masks drop before the command it is read past"
+    } else if is_keyword(b"PATH", word) || is_keyword(b"VIA", word) {
+        b": with --wide before the command a macro that has it is left out"
     } else {
         b""
     }
@@ -351,8 +364,8 @@ pub(crate) fn advice_on(kind: FaultKind, is_lef: bool, word: &[u8]) -> &'static 
     ensures { result.now ≡ advice_on kind is_lef word.now }
 {
     match kind {
-        FaultKind::Unsupported if is_lef => lef_tool_text(word),
-        FaultKind::Unsupported => def_tool_text(word),
+        FaultKind::Unsupported if is_lef => lef_remedy(word),
+        FaultKind::Unsupported => def_remedy(word),
         _ => b"",
     }
 }

@@ -1,22 +1,27 @@
 -- Each form of a DEF takes a word.
-use Rattle.std.proofs.Common.{◌≡◌, ◌<◌, Bool, true, false, ◌==◌, List, [], ◌∷◌, length, Some, is_some, codes, arith}
+use Rattle.std.proofs.Common.{◌≡◌, ◌<◌, Bool, true, false, ◌==◌, ◌&&◌, List, [], ◌∷◌, length, Some, is_some, codes, arith}
 use Rattle.leg_lex.specs.Words.{Words, is_at, end_at}
 use Rattle.leg_lex.proofs.Until.{Below, Shortens, below_none, below_some, below_bind, below_ask, below_if, below_more}
 use Rattle.leg_lex.proofs.Shorter.{end_below}
 use Rattle.leg_lex.proofs.Statements.{statement_below}
 use Rattle.leg_lex.proofs.ReadPast.{past_below, past_extension_below}
+use Rattle.leg_grammar.specs.declared.profile.Profile.{Profile}
+use Rattle.leg_grammar.specs.declared.profile.Profile.TheVariants.{Narrow, Wide}
 use Rattle.leg_grammar.specs.Def.Guard.{when, unless}
+use Rattle.leg_grammar.specs.Mask.{drops_masks}
 use Rattle.leg_grammar.specs.Def.NetScope.{NetScopeModel}
 use Rattle.leg_design_records.specs.Records.{NetModel}
 use Rattle.leg_grammar.specs.Def.Net.{net_entry, nets_at}
 use Rattle.leg_design_records.specs.Names.{net_section}
-use Rattle.leg_grammar.specs.Def.Parts.{DesignParts, net_scope, divider_form, bus_form, name_form, units_form, die_form, row_form, track_form, vias_form, components_form, pins_form, blockages_form, nets_form, special_form}
+use Rattle.leg_grammar.specs.Def.Parts.{DesignParts, net_scope, divider_form, bus_form, name_form, units_form, die_form, kept_row_form, dropped_row_form, row_form, track_form, vias_form, components_form, pins_form, blockages_form, nets_form, special_form}
 use Rattle.leg_grammar.specs.Def.SkippedForms.{is_past_statement, is_past_section, past_def_section, past_def_form}
 use Rattle.leg_grammar.specs.Def.Form.{header_form, def_form_at}
 use Rattle.leg_design_common.proofs.Sections.{section_below}
 use Rattle.leg_design.proofs.Headers.{word_after_below, design_name_below, units_below}
 use Rattle.leg_design_floorplan.proofs.Dies.{die_below}
 use Rattle.leg_design_floorplan.proofs.Rows.{row_below}
+use Rattle.leg_design_floorplan.proofs.DroppedRows.{dropped_row_below}
+use Rattle.leg_design.proofs.Either.{below_either}
 use Rattle.leg_design_floorplan.proofs.Tracks.{track_below}
 use Rattle.leg_design_floorplan.proofs.Vias.{vias_below}
 use Rattle.leg_design_floorplan.proofs.Components.{components_below}
@@ -38,12 +43,14 @@ unfolding past_def_section
 past_section_below [] = below_none 0
 past_section_below (keyword ∷ words) = below_more (omega arith) (past_below (end_at keyword) (end_below keyword) words)
 
-past_form_below : (words : Words) → Below (length words) (past_def_form words)
+past_form_below : (profile : Profile) (words : Words) → Below (length words) (past_def_form profile words)
 unfolding past_def_form
-past_form_below words =
+past_form_below profile words =
     below_if (is_past_statement words) (below_bind (omega arith) (statement_below words) (λ statement l. below_some tt statement.1 l))
     (below_if (is_past_section words) (past_section_below words)
-    (below_if (is_at (codes "BEGINEXT") words) (past_extension_below words) (below_none (length words))))
+    (below_if (is_at (codes "BEGINEXT") words) (past_extension_below words)
+    (below_if (drops_masks profile && is_at (codes "COMPONENTMASKSHIFT") words)
+    (below_bind (omega arith) (statement_below words) (λ statement l. below_some tt statement.1 l)) (below_none (length words)))))
 
 -- the forms
 
@@ -78,21 +85,33 @@ die_form_below parts words =
     below_ask (unless parts.has.die) (λ once.
     below_bind (omega arith) (die_below words) (λ die l. below_some _ die.1 l))
 
+kept_row_form_below : (parts : DesignParts) (words : Words) → Below (length words) (kept_row_form parts words)
+unfolding kept_row_form
+kept_row_form_below parts words =
+    below_bind (omega arith) (row_below parts.design.library words) (λ row l. below_some _ row.1 l)
+
+dropped_row_form_below : (profile : Profile) (parts : DesignParts) (words : Words) → Below (length words) (dropped_row_form profile parts words)
+unfolding dropped_row_form
+dropped_row_form_below Narrow parts words = below_none (length words)
+dropped_row_form_below (Wide masks soft) parts words =
+    below_bind (omega arith) (dropped_row_below parts.design.library words) (λ site l. below_some _ site.1 l)
+
 row_form_below : (parts : DesignParts) (words : Words) → Below (length words) (row_form parts words)
 unfolding row_form
 row_form_below parts words =
-    below_bind (omega arith) (row_below parts.design.library words) (λ row l. below_some _ row.1 l)
+    below_either (kept_row_form parts words) (dropped_row_form parts.profile parts words) (kept_row_form_below parts words)
+    (dropped_row_form_below parts.profile parts words)
 
 track_form_below : (parts : DesignParts) (words : Words) → Below (length words) (track_form parts words)
 unfolding track_form
 track_form_below parts words =
-    below_bind (omega arith) (track_below parts.design.library words) (λ track l. below_some _ track.1 l)
+    below_bind (omega arith) (track_below parts.profile parts.design.library words) (λ track l. below_some _ track.1 l)
 
 vias_form_below : (parts : DesignParts) (words : Words) → Below (length words) (vias_form parts words)
 unfolding vias_form
 vias_form_below parts words =
     below_ask (unless parts.has.vias) (λ once.
-    below_bind (omega arith) (vias_below parts.design.library words) (λ vias l. below_some _ vias.1 l))
+    below_bind (omega arith) (vias_below parts.profile parts.design.library words) (λ vias l. below_some _ vias.1 l))
 
 components_form_below : (parts : DesignParts) (words : Words) → Below (length words) (components_form parts words)
 unfolding components_form
@@ -104,13 +123,13 @@ pins_form_below : (parts : DesignParts) (words : Words) → Below (length words)
 unfolding pins_form
 pins_form_below parts words =
     below_ask (unless parts.has.pins) (λ once.
-    below_bind (omega arith) (pins_below parts.design.library words) (λ pins l. below_some _ pins.1 l))
+    below_bind (omega arith) (pins_below (net_scope parts.profile parts.design) words) (λ pins l. below_some _ pins.1 l))
 
 blockages_form_below : (parts : DesignParts) (words : Words) → Below (length words) (blockages_form parts words)
 unfolding blockages_form
 blockages_form_below parts words =
     below_ask (unless parts.has.blockages) (λ once.
-    below_bind (omega arith) (blockages_below parts.design.library words) (λ blockages l. below_some _ blockages.1 l))
+    below_bind (omega arith) (blockages_below parts.profile parts.design.library words) (λ blockages l. below_some _ blockages.1 l))
 
 nets_form_below : (parts : DesignParts) (words : Words) → Below (length words) (nets_form parts words)
 unfolding nets_form
@@ -134,7 +153,7 @@ header_form_below parts words =
     (below_if (is_at (codes "DIEAREA") words) (die_form_below parts words)
     (below_if (is_at (codes "ROW") words) (row_form_below parts words)
     (below_if (is_at (codes "TRACKS") words) (track_form_below parts words)
-    (below_bind (omega arith) (past_form_below words) (λ form l. below_some parts form.1 l))))))))
+    (below_bind (omega arith) (past_form_below parts.profile words) (λ form l. below_some parts form.1 l))))))))
 
 pub form_shortens : Shortens def_form_at
 unfolding def_form_at

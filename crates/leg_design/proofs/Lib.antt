@@ -2,6 +2,8 @@
 mod Microns
 mod Headers
 mod Skips
+-- One form, or else another.
+mod Either
 -- That each form shortens the words that are left.
 mod FormsShorter
 mod Forms

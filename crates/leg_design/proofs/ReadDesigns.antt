@@ -21,7 +21,7 @@ use Rattle.leg_design_common.proofs.Gives.{Gives, gives_some, gives_bind, gives_
 use Rattle.leg_design_nets.proofs.ReadTerminals.{IsKnownTerminal}
 use Rattle.leg_design_nets.proofs.ReadNets.{IsKnownNet}
 use Rattle.leg_design_nets.proofs.EntriesWithLonePins.{lone_pins_listed}
-use Rattle.leg_design.proofs.Designs.{all_terminals}
+use Rattle.leg_design.proofs.Designs.{all_terminals, unused}
 use Rattle.leg_design.proofs.ReadForms.{HasSoundParts, form_keeps, no_parts_sound}
 use Rattle.leg_design.proofs.ReadNetForms.{HasNetParts, lists_of, net_form_keeps, no_net_parts}
 
@@ -106,6 +106,7 @@ design_gives library parts are =
     let header = are.sound.header in
     let sections = are.sound.sections in
     gives_bind (when_gives (parts.has.name && parts.has.units && parts.has.die)) (λ there all.
+    gives_skip (unused parts) (λ free.
     gives_bind (unless_gives (nat_lt PART_LIMIT (all_terminals parts.design))) (λ few is.
     let has = first_and_last parts.has.name parts.has.units parts.has.die all in
     gives_some _ (
@@ -123,7 +124,7 @@ design_gives library parts are =
         nets = all_nets_are parts are.nets is;
       },
       are.sound.same,
-    )))
+    ))))
 
 forms_give : (profile : Profile) (library : LibraryModel) (words : Words)
     → Gives (λ forms. AreRead library forms.0) (until at_end def_form_at (no_parts profile library) words)

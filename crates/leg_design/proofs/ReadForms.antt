@@ -11,11 +11,14 @@ use Rattle.leg_grammar.specs.Def.Header.{word_after, design_name_at, units_at}
 use Rattle.leg_grammar.specs.Def.Net.{nets_at}
 use Rattle.leg_design_records.specs.Records.{TrackModel, PinModel, BlockageModel}
 use Rattle.leg_grammar.specs.declared.profile.Profile.{Profile}
-use Rattle.leg_grammar.specs.Def.Parts.{DesignParts, no_parts, net_scope, divider_form, bus_form, name_form, units_form, die_form, row_form, track_form, vias_form, components_form, pins_form, blockages_form, nets_form, special_form}
+use Rattle.leg_grammar.specs.declared.profile.Profile.TheVariants.{Narrow, Wide}
+use Rattle.leg_grammar.specs.Def.DroppedRow.{dropped_row_at}
+use Rattle.leg_grammar.specs.Def.Parts.{DesignParts, no_parts, net_scope, divider_form, bus_form, name_form, units_form, die_form, kept_row_form, dropped_row_form, row_form, track_form, vias_form, components_form, pins_form, blockages_form, nets_form, special_form}
 use Rattle.leg_grammar.specs.Def.SkippedForms.{past_def_form}
 use Rattle.leg_grammar.specs.Def.Form.{header_form, def_form_at}
 use Rattle.leg_design_records.specs.WellFormedParts.{IsKept, IsArea, AreComponents, IsRow, IsTrack, AreVias, ArePins, AreBlockages}
-use Rattle.leg_design_common.proofs.Gives.{Gives, gives_some, gives_bind, gives_skip, gives_if, name_gives, word_gives}
+use Rattle.leg_design.proofs.Either.{gives_either}
+use Rattle.leg_design_common.proofs.Gives.{Gives, gives_none, gives_some, gives_bind, gives_skip, gives_if, name_gives, word_gives}
 use Rattle.leg_design_floorplan.proofs.ReadDie.{die_gives}
 use Rattle.leg_design_floorplan.proofs.ReadComponents.{components_give, no_components}
 use Rattle.leg_design_floorplan.proofs.ReadRows.{row_gives}
@@ -150,9 +153,9 @@ module _ (library : LibraryModel) (parts : DesignParts) (words : Words) (sound :
         sections = sound.sections;
       })))
 
-  row_keeps : Keeps (row_form parts words)
-  unfolding row_form
-  row_keeps =
+  kept_row_keeps : Keeps (kept_row_form parts words)
+  unfolding kept_row_form
+  kept_row_keeps =
       gives_bind (row_gives parts.design.library words) (λ row holds.
       gives_some _ (record {
         same = sound.same;
@@ -167,10 +170,22 @@ module _ (library : LibraryModel) (parts : DesignParts) (words : Words) (sound :
         sections = sound.sections;
       }))
 
+  dropped_row_keeps : (profile : Profile) → Keeps (dropped_row_form profile parts words)
+  unfolding dropped_row_form
+  dropped_row_keeps Narrow = gives_none
+  dropped_row_keeps (Wide masks soft) =
+      gives_skip (dropped_row_at parts.design.library words) (λ site.
+      gives_some _ (record { same = sound.same; header = sound.header; sections = sound.sections }))
+
+  row_keeps : Keeps (row_form parts words)
+  unfolding row_form
+  row_keeps =
+      gives_either (kept_row_form parts words) (dropped_row_form parts.profile parts words) kept_row_keeps (dropped_row_keeps parts.profile)
+
   track_keeps : Keeps (track_form parts words)
   unfolding track_form
   track_keeps =
-      gives_bind (track_gives parts.design.library words) (λ track holds.
+      gives_bind (track_gives parts.profile parts.design.library words) (λ track holds.
       gives_some _ (record {
         same = sound.same;
         header = record {
@@ -189,7 +204,7 @@ module _ (library : LibraryModel) (parts : DesignParts) (words : Words) (sound :
   vias_keep =
       let sections = sound.sections in
       gives_skip (unless parts.has.vias) (λ once.
-      gives_bind (vias_give parts.design.library words) (λ vias each.
+      gives_bind (vias_give parts.profile parts.design.library words) (λ vias each.
       gives_some _ (record {
         same = sound.same;
         header = sound.header;
@@ -213,7 +228,7 @@ module _ (library : LibraryModel) (parts : DesignParts) (words : Words) (sound :
   pins_keep =
       let sections = sound.sections in
       gives_skip (unless parts.has.pins) (λ once.
-      gives_bind (pins_give parts.design.library words) (λ pins each.
+      gives_bind (pins_give (net_scope parts.profile parts.design) words) (λ pins each.
       gives_some _ (record {
         same = sound.same;
         header = sound.header;
@@ -225,7 +240,7 @@ module _ (library : LibraryModel) (parts : DesignParts) (words : Words) (sound :
   blockages_keep =
       let sections = sound.sections in
       gives_skip (unless parts.has.blockages) (λ once.
-      gives_bind (blockages_give parts.design.library words) (λ blockages are.
+      gives_bind (blockages_give parts.profile parts.design.library words) (λ blockages are.
       gives_some _ (record {
         same = sound.same;
         header = sound.header;
@@ -256,7 +271,7 @@ module _ (library : LibraryModel) (parts : DesignParts) (words : Words) (sound :
       (gives_if (is_at (codes "DIEAREA") words) die_keeps
       (gives_if (is_at (codes "ROW") words) row_keeps
       (gives_if (is_at (codes "TRACKS") words) track_keeps
-      (gives_skip (past_def_form words) (λ form. gives_some _ sound))))))))
+      (gives_skip (past_def_form parts.profile words) (λ form. gives_some _ sound))))))))
 
   pub form_keeps : Keeps (def_form_at parts words)
   unfolding def_form_at
@@ -279,5 +294,10 @@ no_parts_sound profile library = record {
     rows_ = All-nil (IsRow library);
     tracks_ = All-nil (IsTrack library);
   };
-  sections = record { vias_ = no_vias library; components_ = no_components library; pins_ = no_pins library; blockages_ = no_blockages library };
+  sections = record {
+    vias_ = no_vias library;
+    components_ = no_components library;
+    pins_ = no_pins (net_scope profile (no_parts profile library).design);
+    blockages_ = no_blockages library;
+  };
 }

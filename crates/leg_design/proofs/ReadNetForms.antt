@@ -18,11 +18,14 @@ use Rattle.leg_grammar.specs.Def.Blockage.{blockages_at}
 use Rattle.leg_grammar.specs.Def.LonePins.{NetLists}
 use Rattle.leg_design_records.specs.Records.{NetModel, wire_count}
 use Rattle.leg_grammar.specs.declared.profile.Profile.{Profile}
-use Rattle.leg_grammar.specs.Def.Parts.{DesignParts, no_parts, net_scope, divider_form, bus_form, name_form, units_form, die_form, row_form, track_form, vias_form, components_form, pins_form, blockages_form, nets_form, special_form}
+use Rattle.leg_grammar.specs.declared.profile.Profile.TheVariants.{Narrow, Wide}
+use Rattle.leg_grammar.specs.Def.DroppedRow.{dropped_row_at}
+use Rattle.leg_grammar.specs.Def.Parts.{DesignParts, no_parts, net_scope, divider_form, bus_form, name_form, units_form, die_form, kept_row_form, dropped_row_form, row_form, track_form, vias_form, components_form, pins_form, blockages_form, nets_form, special_form}
 use Rattle.leg_grammar.specs.Def.SkippedForms.{past_def_form}
 use Rattle.leg_grammar.specs.Def.Form.{header_form, def_form_at}
 use Rattle.leg_design_records.specs.WellFormedNets.{AreInOneNet}
-use Rattle.leg_design_common.proofs.Gives.{Gives, gives_some, gives_bind, gives_skip, gives_if, unless_gives}
+use Rattle.leg_design.proofs.Either.{gives_either}
+use Rattle.leg_design_common.proofs.Gives.{Gives, gives_none, gives_some, gives_bind, gives_skip, gives_if, unless_gives}
 use Rattle.leg_design_nets.proofs.ReadNets.{IsKnownNet, AreEntries, nets_give}
 use Rattle.leg_design_nets.proofs.ReadLonePins.{HasEntries}
 use Rattle.leg_design_nets.proofs.LaterScopes.{Grows, nets_grow, vias_grow, components_grow, pins_grow}
@@ -107,19 +110,29 @@ module _ (parts : DesignParts) (words : Words) (sound : HasNetParts parts) where
   unfolding die_form
   die_keeps = gives_skip (unless parts.has.die) (λ once. gives_skip (die_at words) (λ die. gives_some _ sound))
 
+  kept_row_keeps : Keeps (kept_row_form parts words)
+  unfolding kept_row_form
+  kept_row_keeps = gives_skip (row_at parts.design.library words) (λ row. gives_some _ sound)
+
+  dropped_row_keeps : (profile : Profile) → Keeps (dropped_row_form profile parts words)
+  unfolding dropped_row_form
+  dropped_row_keeps Narrow = gives_none
+  dropped_row_keeps (Wide masks soft) = gives_skip (dropped_row_at parts.design.library words) (λ site. gives_some _ sound)
+
   row_keeps : Keeps (row_form parts words)
   unfolding row_form
-  row_keeps = gives_skip (row_at parts.design.library words) (λ row. gives_some _ sound)
+  row_keeps =
+      gives_either (kept_row_form parts words) (dropped_row_form parts.profile parts words) kept_row_keeps (dropped_row_keeps parts.profile)
 
   track_keeps : Keeps (track_form parts words)
   unfolding track_form
-  track_keeps = gives_skip (track_at parts.design.library words) (λ track. gives_some _ sound)
+  track_keeps = gives_skip (track_at parts.profile parts.design.library words) (λ track. gives_some _ sound)
 
   vias_keep : Keeps (vias_form parts words)
   unfolding vias_form
   vias_keep =
       gives_bind (unless_gives parts.has.vias) (λ once new.
-      gives_skip (vias_at parts.design.library words) (λ vias.
+      gives_skip (vias_at parts.profile parts.design.library words) (λ vias.
       let grows = vias_grow (net_scope parts.profile parts.design) vias.0 (sound.no_vias new) in
       gives_some _ (record {
         no_vias = never;
@@ -145,7 +158,7 @@ module _ (parts : DesignParts) (words : Words) (sound : HasNetParts parts) where
   unfolding pins_form
   pins_keep =
       gives_bind (unless_gives parts.has.pins) (λ once new.
-      gives_skip (pins_at parts.design.library words) (λ pins.
+      gives_skip (pins_at (net_scope parts.profile parts.design) words) (λ pins.
       let grows = pins_grow (net_scope parts.profile parts.design) pins.0 (sound.no_pins new) in
       gives_some _ (record {
         no_vias = sound.no_vias;
@@ -157,7 +170,7 @@ module _ (parts : DesignParts) (words : Words) (sound : HasNetParts parts) where
   blockages_keep : Keeps (blockages_form parts words)
   unfolding blockages_form
   blockages_keep =
-      gives_skip (unless parts.has.blockages) (λ once. gives_skip (blockages_at parts.design.library words) (λ blockages. gives_some _ sound))
+      gives_skip (unless parts.has.blockages) (λ once. gives_skip (blockages_at parts.profile parts.design.library words) (λ blockages. gives_some _ sound))
 
   nets_keep : Keeps (nets_form parts words)
   unfolding nets_form
@@ -222,7 +235,7 @@ module _ (parts : DesignParts) (words : Words) (sound : HasNetParts parts) where
       (gives_if (is_at (codes "DIEAREA") words) die_keeps
       (gives_if (is_at (codes "ROW") words) row_keeps
       (gives_if (is_at (codes "TRACKS") words) track_keeps
-      (gives_skip (past_def_form words) (λ form. gives_some _ sound))))))))
+      (gives_skip (past_def_form parts.profile words) (λ form. gives_some _ sound))))))))
 
   pub net_form_keeps : Keeps (def_form_at parts words)
   unfolding def_form_at

@@ -40,7 +40,7 @@ fn header_form<'a, A: Allocator + Copy>(
     } else if words.is_at(b"TRACKS") {
         parts.track_form(alloc, words)
     } else {
-        past_form(words)
+        past_form(parts.profile(), words)
     }
 }
 

@@ -5,6 +5,7 @@
 #![tactic(auto)]
 
 mod def_text;
+mod dropped_rows;
 mod form;
 mod header;
 pub mod laws;

@@ -5,14 +5,15 @@ ghost use Rattle.leg_lex.specs.Words.{Reads, Means};
 ghost use Rattle.leg_design_records.specs.declared.limits.TheConstants.{PART_LIMIT};
 ghost use Rattle.leg_grammar.specs.Def.Guard.{unless};
 ghost use Rattle.leg_design_records.specs.Records.{net_names, terminal_count};
-ghost use Rattle.leg_grammar.specs.Def.Parts.{no_parts, divider_form, bus_form, name_form, units_form, die_form, row_form, track_form};
+ghost use Rattle.leg_grammar.specs.Def.Parts.{no_parts, divider_form, bus_form, name_form, units_form, die_form, track_form};
 ghost use Rattle.leg_grammar.specs.Def.Form.{with_all_nets, design_of};
 
+mod rows;
 mod sections;
 
+use crate::dropped_rows::DroppedRows;
 use crate::header::{design_name, units, word_after};
 use leg_design_floorplan::die::die;
-use leg_design_floorplan::row::row;
 use leg_design_floorplan::track::track;
 use leg_design_nets::{NetTable, add_lone_pins};
 use leg_design_records::{Blockage, Component, DesignFields, PART_LIMIT, Pin, Row, Track};
@@ -35,7 +36,8 @@ struct Appearances {
     special: bool,
 }
 
-/// What the forms before gave. Contracts see it as a design, which forms have appeared, and the profile in which they are read.
+/// What the forms before gave. Contracts see it as a design, which forms have appeared, the profile in which they are read, and the
+/// sites of rows that were dropped.
 #[derive(Drop)]
 pub(crate) struct Parts<'a, A: Allocator + Copy> {
     profile: Profile,
@@ -53,6 +55,7 @@ pub(crate) struct Parts<'a, A: Allocator + Copy> {
     blockages: Vec<Blockage<A>, A>,
     nets: NetTable<'a, A>,
     special: NetTable<'a, A>,
+    dropped: DroppedRows<A>,
 }
 
 impl<'a, A: Allocator + Copy> Model for Parts<'a, A> {
@@ -90,6 +93,7 @@ impl<'a, A: Allocator + Copy> Model for Parts<'a, A> {
         nets = p.nets;
         special = p.special;
       };
+      dropped = p.dropped;
     } };
 }
 
@@ -122,7 +126,15 @@ impl<'a, A: Allocator + Copy> Parts<'a, A> {
             blockages: Vec::new(alloc),
             nets: NetTable::new(alloc),
             special: NetTable::new(alloc),
+            dropped: DroppedRows::new(alloc),
         }
+    }
+
+    /// The profile in which the forms are read.
+    pub(crate) fn profile(&self) -> Profile
+        ensures { result ≡ self.now.profile }
+    {
+        self.profile
     }
 
     /// `DIVIDERCHAR word ;`, once.
@@ -182,16 +194,6 @@ impl<'a, A: Allocator + Copy> Parts<'a, A> {
         Ok(())
     }
 
-    /// One more row.
-    #[tactic(auto, unfolding(leg_grammar::specs::Def::Parts::row_form))]
-    pub(crate) fn row_form(&mut self, alloc: A, words: &mut Cursor<'_, 'a>) -> Result<(), ReadFault>
-        ensures { Reads (λ _. self.new) result words.new (row_form self.old words.old) }
-    {
-        let row = row(alloc, self.library, words)?;
-        self.rows.push(row)?;
-        Ok(())
-    }
-
     /// More tracks.
     #[tactic(auto, unfolding(leg_grammar::specs::Def::Parts::track_form))]
     pub(crate) fn track_form(
@@ -201,7 +203,7 @@ impl<'a, A: Allocator + Copy> Parts<'a, A> {
     ) -> Result<(), ReadFault>
         ensures { Reads (λ _. self.new) result words.new (track_form self.old words.old) }
     {
-        let track = track(alloc, self.library, words)?;
+        let track = track(alloc, self.profile, self.library, words)?;
         self.tracks.push(track)?;
         Ok(())
     }
@@ -234,7 +236,7 @@ impl<'a, A: Allocator + Copy> Parts<'a, A> {
 
     /// Adds the lone pins, where `DESIGN`, `UNITS` and `DIEAREA` have appeared and there aren't too many terminals.
     /// Faults are reported at `end`.
-    #[tactic(auto, using(crate::proofs::Designs::not_whole, crate::proofs::Designs::too_many_before, crate::proofs::Designs::too_many, crate::proofs::Designs::design_made))]
+    #[tactic(auto, using(crate::proofs::Designs::not_whole, crate::proofs::Designs::site_is_used, crate::proofs::Designs::too_many_before, crate::proofs::Designs::too_many, crate::proofs::Designs::design_made))]
     fn complete(&mut self, end: &Cursor<'_, '_>) -> Result<(), ReadFault>
         ensures design { Means (λ _. self.new.design) result (design_of self.old) }
         ensures name { OnOk result (self.new.has.name ≡ true) }
@@ -244,6 +246,8 @@ impl<'a, A: Allocator + Copy> Parts<'a, A> {
             let need = Need::Statement(Keyword::new(self.missing()));
             return Err(end.need(FaultKind::Unexpected, need));
         }
+        self.dropped
+            .are_unused(self.library, self.components.as_slice(), end)?;
         // Sections are refused where they list too many, so this is not found here; lone pins are counted from it on.
         if are_too_many(&self.nets, &self.special) {
             return Err(end.need(FaultKind::TooMany, Need::Fewer(Entry::NetPart)));

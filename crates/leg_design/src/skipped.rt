@@ -4,6 +4,8 @@ ghost use Rattle.std.specs.Prelude.{◌≡◌};
 ghost use Rattle.leg_lex.specs.Words.{Reads};
 ghost use Rattle.leg_grammar.specs.Def.SkippedForms.{is_past_statement, is_past_section, past_def_section, past_def_form};
 
+use leg_grammar::Profile;
+use leg_grammar::mask::drops_masks;
 use leg_lex::{Cursor, FaultKind, Keyword, Need, ReadFault};
 
 /// Whether a statement without effect comes next.
@@ -53,8 +55,8 @@ fn no_form(words: &Cursor<'_, '_>) -> ReadFault {
 
 /// A form without effect. A word that begins no form is `Unexpected`.
 #[tactic(auto, unfolding(leg_grammar::specs::Def::SkippedForms::past_def_form))]
-pub(crate) fn past_form(words: &mut Cursor<'_, '_>) -> Result<(), ReadFault>
-    ensures { Reads (λ x. x) result words.new (past_def_form words.old) }
+pub(crate) fn past_form(profile: Profile, words: &mut Cursor<'_, '_>) -> Result<(), ReadFault>
+    ensures { Reads (λ x. x) result words.new (past_def_form profile words.old) }
 {
     if is_past_statement(words) {
         words.statement()?;
@@ -63,6 +65,9 @@ pub(crate) fn past_form(words: &mut Cursor<'_, '_>) -> Result<(), ReadFault>
         past_section(words)
     } else if words.is_at(b"BEGINEXT") {
         words.past_extension()
+    } else if drops_masks(profile) && words.is_at(b"COMPONENTMASKSHIFT") {
+        words.statement()?;
+        Ok(())
     } else {
         Err(no_form(words))
     }

@@ -5,6 +5,7 @@
 pub mod clause;
 pub mod layers;
 mod net_scope;
+pub mod number;
 pub mod placement;
 mod section;
 

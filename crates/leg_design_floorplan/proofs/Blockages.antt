@@ -1,5 +1,5 @@
--- Blockages: each clause, each rectangle and each entry takes a word, and how many rectangles there are.
-use Rattle.std.proofs.Common.{◌≡◌, ℕ, ◌+◌, ◌<◌, true, false, List, [], ◌∷◌, ◌++◌, length, map, None, Some, codes, refl, arith}
+-- Blockages: each rectangle and each entry takes a word, and how many rectangles there are.
+use Rattle.std.proofs.Common.{◌≡◌, ℕ, ◌+◌, ◌<◌, true, false, ◌&&◌, List, [], ◌∷◌, ◌++◌, length, map, None, Some, codes, refl, arith}
 use Rattle.std.proofs.lemmas.Bool.{false≢true}
 use Rattle.std.proofs.lemmas.List.{map_push}
 use Rattle.std.specs.Char.{to_ascii_lowercase}
@@ -7,7 +7,7 @@ use Rattle.leg_lex.specs.Words.{Words, is_at, is_keyword, keyword_at, next_at}
 use Rattle.leg_lex.proofs.NameLookup.{same_name}
 use Rattle.leg_lex.proofs.Shorter.{keyword_below, mark_below, name_below}
 use Rattle.leg_lex.specs.NameLookup.{place_of}
-use Rattle.leg_lex.proofs.Until.{Below, Shortens, below_some, below_bind, below_ask, below_if, below_more, until_below}
+use Rattle.leg_lex.proofs.Until.{Below, Shortens, below_some, below_bind, below_ask, below_if, until_below}
 use Rattle.leg_geom.specs.Plane.{RectModel}
 use Rattle.leg_lib_records.specs.Measure.{rect_between}
 use Rattle.leg_lib_records.specs.Records.{LibraryModel, layer_names}
@@ -17,17 +17,11 @@ use Rattle.leg_grammar.specs.Def.Guard.{when}
 use Rattle.leg_grammar.specs.Def.Layers.{layer_named_at}
 use Rattle.leg_grammar.specs.Def.Placement.{rect_at}
 use Rattle.leg_design_common.proofs.Sections.{section_below}
-use Rattle.leg_grammar.specs.Def.Blockage.{blocked_layer_at, push_down, at_no_plus, one_rect, at_semicolon, rects_at, blockage_at, is_kept, is_room_for, blockage_entry, blockages_at}
+use Rattle.leg_grammar.specs.Def.Blockage.{blocked_layer_at, at_no_plus, one_rect, at_semicolon, rects_at, blockage_at, is_kept, is_room_for, blockage_entry, blockages_at}
+use Rattle.leg_grammar.specs.declared.profile.Profile.{Profile}
+use Rattle.leg_grammar.specs.Def.BlockageClause.{blockage_clause}
 use Rattle.leg_design_floorplan.proofs.Spots.{spot_below}
-
-pub push_down_shortens : Shortens push_down
-unfolding push_down
-push_down_shortens before words =
-    below_bind (omega arith) (mark_below 43 words) (λ plus less.
-    below_more (omega arith) (keyword_below (codes "PUSHDOWN") plus.1))
-
-pub push_down_shorter : (before more : Unit {0}) (words rest : Words) → push_down before words ≡ Some (more, rest) → length rest < length words
-push_down_shorter before more words rest said = (push_down_shortens before words).left more rest said
+use Rattle.leg_design_floorplan.proofs.BlockageClauses.{clause_shortens}
 
 -- POLYGON isn't RECT.
 pub no_polygon : (words : Words) → is_at (codes "POLYGON") words ≡ true → keyword_at (codes "RECT") words ≡ None
@@ -76,30 +70,30 @@ blocked_layer_below library words =
     (below_bind (omega arith) (keyword_below (codes "LAYER") words) (λ start less.
     below_bind (omega arith) (layer_below library start.1) (λ layer fewer. below_some (Some layer.0) layer.1 fewer)))
 
-blockage_below : (library : LibraryModel) (words : Words) → Below (length words) (blockage_at library words)
+blockage_below : (profile : Profile) (library : LibraryModel) (words : Words) → Below (length words) (blockage_at profile library words)
 unfolding blockage_at
-blockage_below library words =
+blockage_below profile library words =
     below_bind (omega arith) (mark_below 45 words) (λ dash less.
     below_bind (omega arith) (blocked_layer_below library dash.1) (λ layer fewer.
-    below_bind (omega arith) (until_below at_no_plus push_down push_down_shortens tt layer.1) (λ past no_more.
-    below_bind (omega arith) (rects_below past.1) (λ rects last.
-    below_some (record { layer = layer.0; rects = rects.0 }) rects.1 last))))
+    below_bind (omega arith) (until_below at_no_plus (blockage_clause profile layer.0) (clause_shortens profile layer.0) true layer.1) (λ kept no_more.
+    below_bind (omega arith) (rects_below kept.1) (λ rects last.
+    below_some (record { layer = layer.0; rects = rects.0 }, kept.0) rects.1 last))))
 
-pub entry_shortens : (library : LibraryModel) → Shortens (blockage_entry library)
+pub entry_shortens : (profile : Profile) (library : LibraryModel) → Shortens (blockage_entry profile library)
 unfolding blockage_entry
-entry_shortens library blockages words =
-    below_bind (omega arith) (blockage_below library words) (λ blockage less.
-    below_if (is_kept library blockage.0.layer)
-    (below_ask (when (is_room_for blockage.0 blockages)) (λ room. below_some (blockages ++ blockage.0 ∷ []) blockage.1 less))
-    (below_some blockages blockage.1 less))
+entry_shortens profile library blockages words =
+    below_bind (omega arith) (blockage_below profile library words) (λ said less.
+    below_if (said.0.1 && is_kept library said.0.0.layer)
+    (below_ask (when (is_room_for said.0.0 blockages)) (λ room. below_some (blockages ++ said.0.0 ∷ []) said.1 less))
+    (below_some blockages said.1 less))
 
-pub entry_shorter : (library : LibraryModel) (blockages more : List BlockageModel) (words rest : Words)
-    → blockage_entry library blockages words ≡ Some (more, rest) → length rest < length words
-entry_shorter library blockages more words rest said = (entry_shortens library blockages words).left more rest said
+pub entry_shorter : (profile : Profile) (library : LibraryModel) (blockages more : List BlockageModel) (words rest : Words)
+    → blockage_entry profile library blockages words ≡ Some (more, rest) → length rest < length words
+entry_shorter profile library blockages more words rest said = (entry_shortens profile library blockages words).left more rest said
 
-pub blockages_below : (library : LibraryModel) (words : Words) → Below (length words) (blockages_at library words)
+pub blockages_below : (profile : Profile) (library : LibraryModel) (words : Words) → Below (length words) (blockages_at profile library words)
 unfolding blockages_at
-blockages_below library words = section_below (codes "BLOCKAGES") (blockage_entry library) (entry_shortens library) [] words
+blockages_below profile library words = section_below (codes "BLOCKAGES") (blockage_entry profile library) (entry_shortens profile library) [] words
 
 -- One blockage more has so many rectangles more.
 pub rect_count_push : (blockages : List BlockageModel) (blockage : BlockageModel)

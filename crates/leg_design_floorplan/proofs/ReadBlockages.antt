@@ -1,5 +1,5 @@
 -- Blockages that are read are on layers with metal, have rectangles with area, and aren't too many.
-use Rattle.std.proofs.Common.{◌≡◌, ℕ, ◌≤◌, ◌+◌, true, nat_lt, nat_le, List, [], ◌∷◌, ◌++◌, length, All, Option, None, Some, codes, arith}
+use Rattle.std.proofs.Common.{◌≡◌, ℕ, ◌≤◌, ◌+◌, true, ◌&&◌, nat_lt, nat_le, List, [], ◌∷◌, ◌++◌, length, All, Option, None, Some, codes, arith}
 use Rattle.std.proofs.lemmas.Bool.{and_parts}
 use Rattle.std.proofs.lemmas.Bool.Decides.{nat_tests}
 use Rattle.std.proofs.lemmas.List.{length_push}
@@ -14,7 +14,9 @@ use Rattle.leg_design_records.specs.Records.{BlockageModel, rect_count}
 use Rattle.leg_design_records.specs.WellFormedParts.{IsArea, IsLayerOfBlockage, IsBlockage, AreBlockages}
 use Rattle.leg_design_common.proofs.Gives.{Gives, gives_some, gives_bind, gives_skip, gives_choice, when_gives, section_gives}
 use Rattle.leg_design_common.proofs.ReadPlacement.{rect_gives}
-use Rattle.leg_grammar.specs.Def.Blockage.{blocked_layer_at, push_down, at_no_plus, one_rect, at_semicolon, rects_at, blockage_at, is_kept, is_room_for, blockage_entry, blockages_at}
+use Rattle.leg_grammar.specs.declared.profile.Profile.{Profile}
+use Rattle.leg_grammar.specs.Def.BlockageClause.{blockage_clause}
+use Rattle.leg_grammar.specs.Def.Blockage.{blocked_layer_at, at_no_plus, one_rect, at_semicolon, rects_at, blockage_at, is_kept, is_room_for, blockage_entry, blockages_at}
 use Rattle.leg_design_floorplan.proofs.Blockages.{rect_count_push}
 
 -- one rectangle at least, and each has area
@@ -39,13 +41,13 @@ rects_give words =
     gives_skip (mark_at 59 rects.1) (λ end.
     gives_some _ some)))
 
-blockage_gives : (library : LibraryModel) (words : Words) → Gives (λ said. AreRects said.0.rects) (blockage_at library words)
+blockage_gives : (profile : Profile) (library : LibraryModel) (words : Words) → Gives (λ said. AreRects said.0.0.rects) (blockage_at profile library words)
 unfolding blockage_at
-blockage_gives library words =
+blockage_gives profile library words =
     gives_skip (mark_at 45 words) (λ dash.
     gives_skip (blocked_layer_at library dash.1) (λ layer.
-    gives_skip (until at_no_plus push_down tt layer.1) (λ past.
-    gives_bind (rects_give past.1) (λ rects some.
+    gives_skip (until at_no_plus (blockage_clause profile layer.0) true layer.1) (λ kept.
+    gives_bind (rects_give kept.1) (λ rects some.
     gives_some _ some))))
 
 layer_of_kept : (library : LibraryModel) (layer : Option ℕ) → is_kept library layer ≡ true → IsLayerOfBlockage library layer
@@ -64,16 +66,17 @@ with_blockage library blockages blockage before holds room =
       few_rects = rw (rect_count_push blockages blockage) (grind (arith, nat_tests));
     }
 
-entry_gives : (library : LibraryModel) (blockages : List BlockageModel) (words : Words) → AreBlockages library blockages
-    → Gives (λ said. AreBlockages library said.0) (blockage_entry library blockages words)
+entry_gives : (profile : Profile) (library : LibraryModel) (blockages : List BlockageModel) (words : Words) → AreBlockages library blockages
+    → Gives (λ said. AreBlockages library said.0) (blockage_entry profile library blockages words)
 unfolding blockage_entry
-entry_gives library blockages words before =
-    gives_bind (blockage_gives library words) (λ blockage some.
-    gives_choice (is_kept library blockage.0.layer)
+entry_gives profile library blockages words before =
+    gives_bind (blockage_gives profile library words) (λ said some.
+    gives_choice (said.0.1 && is_kept library said.0.0.layer)
     (λ kept.
-    gives_bind (when_gives (is_room_for blockage.0 blockages)) (λ free room.
-    let holds : IsBlockage library blockage.0 = record { layer = layer_of_kept library blockage.0.layer kept; some = some.1; rects = some.0 } in
-    gives_some _ (with_blockage library blockages blockage.0 before holds room)))
+    gives_bind (when_gives (is_room_for said.0.0 blockages)) (λ free room.
+    let layer = layer_of_kept library said.0.0.layer (and_parts said.0.1 (is_kept library said.0.0.layer) kept).1 in
+    let holds : IsBlockage library said.0.0 = record { layer = layer; some = some.1; rects = some.0 } in
+    gives_some _ (with_blockage library blockages said.0.0 before holds room)))
     (λ dropped. gives_some _ before))
 
 pub no_blockages : (library : LibraryModel) → AreBlockages library []
@@ -83,7 +86,8 @@ no_blockages library = record {
   few_rects = omega arith;
 }
 
-pub blockages_give : (library : LibraryModel) (words : Words) → Gives (λ said. AreBlockages library said.0) (blockages_at library words)
+pub blockages_give : (profile : Profile) (library : LibraryModel) (words : Words)
+    → Gives (λ said. AreBlockages library said.0) (blockages_at profile library words)
 unfolding blockages_at
-blockages_give library words =
-    section_gives (AreBlockages library) (codes "BLOCKAGES") (blockage_entry library) (entry_gives library) [] words (no_blockages library)
+blockages_give profile library words =
+    section_gives (AreBlockages library) (codes "BLOCKAGES") (blockage_entry profile library) (entry_gives profile library) [] words (no_blockages library)

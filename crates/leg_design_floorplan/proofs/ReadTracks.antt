@@ -8,13 +8,15 @@ use Rattle.leg_lex.proofs.GivesAll.{until_gives, named_gives_within}
 use Rattle.leg_lib_records.specs.declared.records.Layer.{Layer}
 use Rattle.leg_lib_records.specs.Records.{LibraryModel}
 use Rattle.leg_grammar.specs.Def.Guard.{is_over, is_within}
+use Rattle.leg_grammar.specs.declared.profile.Profile.{Profile}
+use Rattle.leg_grammar.specs.Def.TrackMask.{past_track_mask}
 use Rattle.leg_grammar.specs.Def.Track.{axis_at, one_layer, layers_in, track_in, track_at}
 use Rattle.leg_design_records.specs.WellFormedParts.{IsTrack}
 use Rattle.leg_design_common.proofs.Gives.{Gives, gives_some, gives_bind, gives_skip, when_gives}
 use Rattle.leg_design_common.proofs.ReadPlacement.{whole_gives}
 use Rattle.leg_design_floorplan.proofs.ReadRows.{within_is}
 
-module _ (library : LibraryModel) where
+module _ (profile : Profile) (library : LibraryModel) where
   -- the numbers are those of layers
   abbrev AreLayers : List ℕ → Type 0
   AreLayers numbers = All (λ layer. layer < length library.layers) numbers
@@ -35,7 +37,7 @@ module _ (library : LibraryModel) where
       gives_bind (until_gives AreLayers is_over (one_layer library) one_layer_gives first.0 first.1 one) (λ numbers each.
       gives_some _ each)))
 
-  track_in_gives : (statement : Words) → Gives (IsTrack library) (track_in library statement)
+  track_in_gives : (statement : Words) → Gives (IsTrack library) (track_in profile library statement)
   unfolding track_in
   track_in_gives statement =
       gives_skip (keyword_at (codes "TRACKS") statement) (λ first.
@@ -48,7 +50,8 @@ module _ (library : LibraryModel) where
       gives_bind (whole_gives step_.1) (λ step pitch.
       gives_bind (when_gives (int_le (pos 1) step.0)) (λ apart rises.
       gives_bind (when_gives (is_within (start.0 +ℤ (count.0 -ℤ pos 1) *ℤ step.0))) (λ end within.
-      gives_bind (layers_give step.1) (λ layers each.
+      gives_skip (past_track_mask profile step.1) (λ mask.
+      gives_bind (layers_give mask.1) (λ layers each.
       gives_some _ (record {
         start = from;
         some = le_from_test (pos 1) count.0 least;
@@ -57,9 +60,9 @@ module _ (library : LibraryModel) where
         step = pitch;
         end = within_is (start.0 +ℤ (count.0 -ℤ pos 1) *ℤ step.0) within;
         layers = each;
-      }))))))))))))
+      })))))))))))))
 
-  pub track_gives : (words : Words) → Gives (λ said. IsTrack library said.0) (track_at library words)
+  pub track_gives : (words : Words) → Gives (λ said. IsTrack library said.0) (track_at profile library words)
   unfolding track_at
   track_gives words =
       gives_skip (statement_at words) (λ statement.

@@ -9,6 +9,7 @@ use Rattle.leg_lex.proofs.Shorter.{name_below}
 use Rattle.leg_lex.proofs.Statements.{statement_below}
 use Rattle.leg_lex.proofs.Until.{Below, Shortens, below_some, below_bind, below_ask}
 use Rattle.leg_lib_records.specs.Records.{LibraryModel, layer_names}
+use Rattle.leg_grammar.specs.declared.profile.Profile.{Profile}
 use Rattle.leg_grammar.specs.Def.Track.{one_layer, layers_in, track_in, track_at}
 
 pub one_layer_shortens : (library : LibraryModel) → Shortens (one_layer library)
@@ -32,9 +33,9 @@ no_mask library (word ∷ words) there =
     let other : is_keyword (codes "LAYER") word ≡ false = rw same refl in
     rw other refl
 
-pub track_below : (library : LibraryModel) (words : Words) → Below (length words) (track_at library words)
+pub track_below : (profile : Profile) (library : LibraryModel) (words : Words) → Below (length words) (track_at profile library words)
 unfolding track_at
-track_below library words =
+track_below profile library words =
     below_bind (omega arith) (statement_below words) (λ statement less.
-    below_ask (track_in library statement.0) (λ track.
+    below_ask (track_in profile library statement.0) (λ track.
     below_some track statement.1 less))

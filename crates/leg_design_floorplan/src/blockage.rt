@@ -5,13 +5,16 @@ ghost use Rattle.leg_lex.specs.Words.{Reads, keyword_at};
 ghost use Rattle.leg_lex.specs.Until.{until};
 ghost use Rattle.leg_lex.specs.Statements.{at_end};
 ghost use Rattle.leg_design_records.specs.Records.{blockage_said};
-ghost use Rattle.leg_grammar.specs.Def.Blockage.{blocked_layer_at, push_down, at_no_plus, one_rect, at_semicolon, rects_at, blockage_at, is_kept, is_room_for, blockage_entry, blockages_at};
+ghost use Rattle.leg_grammar.specs.Def.BlockageClause.{blockage_clause};
+ghost use Rattle.leg_grammar.specs.Def.Blockage.{blocked_layer_at, at_no_plus, one_rect, at_semicolon, rects_at, blockage_at, is_kept, is_room_for, blockage_entry, blockages_at};
 
+use crate::blockage_clause::blockage_clause;
 use leg_design_common::layers::{has_metal, layer};
 use leg_design_common::placement::rect;
 use leg_design_common::section_start;
 use leg_design_records::{Blockage, ENTRY_LIMIT, PART_LIMIT};
 use leg_geom::Rect;
+use leg_grammar::Profile;
 use leg_lex::{Cursor, Entry, FaultKind, Need, ReadFault};
 use leg_lib_records::{Items, Library};
 use std::alloc::{AllocError, Allocator};
@@ -112,36 +115,20 @@ fn blocked_layer<A: Allocator + Copy>(
     }
 }
 
-/// The keyword `PUSHDOWN` of a clause. The keyword of another clause is `Unsupported`.
-fn push_down_keyword(words: &mut Cursor<'_, '_>) -> Result<(), ReadFault>
-    ensures { Reads (λ x. x) result words.new (keyword_at (codes "PUSHDOWN") words.old) }
+/// Reads past the clauses before the first rectangle: whether they keep the blockage.
+#[tactic(auto, using(leg_lex::proofs::Until::ends, leg_lex::proofs::Until::goes_on, leg_lex::proofs::Until::fails, crate::proofs::BlockageClauses::clause_shortens, crate::proofs::BlockageClauses::clause_shorter))]
+fn clauses(
+    profile: Profile,
+    layer: Option<usize>,
+    words: &mut Cursor<'_, '_>,
+) -> Result<bool, ReadFault>
+    ensures { Reads (λ kept. kept) result words.new (until at_no_plus (blockage_clause profile layer) true words.old) }
 {
-    match words.keyword(b"PUSHDOWN") {
-        Err(fault) if fault.kind == FaultKind::Unexpected => {
-            Err(fault.of_kind(FaultKind::Unsupported))
-        }
-        answer => answer,
-    }
-}
-
-/// Reads past `+ PUSHDOWN`, which says that the blockage comes from a level above.
-#[tactic(auto, unfolding(leg_grammar::specs::Def::Blockage::push_down))]
-fn push_down(words: &mut Cursor<'_, '_>) -> Result<(), ReadFault>
-    ensures { Reads (λ x. x) result words.new (push_down tt words.old) }
-{
-    words.mark(b'+')?;
-    push_down_keyword(words)
-}
-
-/// Reads past the clauses before the first rectangle.
-#[tactic(auto, using(leg_lex::proofs::Until::ends, leg_lex::proofs::Until::goes_on, leg_lex::proofs::Until::fails, crate::proofs::Blockages::push_down_shortens, crate::proofs::Blockages::push_down_shorter))]
-fn past_clauses(words: &mut Cursor<'_, '_>) -> Result<(), ReadFault>
-    ensures { Reads (λ x. x) result words.new (until at_no_plus push_down tt words.old) }
-{
+    let mut kept = true;
     'clauses: while words.is_at(b"+") {
-        push_down(words)?;
+        kept = blockage_clause(profile, layer, kept, words)?;
     }
-    Ok(())
+    Ok(kept)
 }
 
 /// The keyword of a rectangle. `POLYGON` in its place is `Unsupported`.
@@ -197,22 +184,23 @@ fn rects<A: Allocator + Copy>(
     Ok(rects)
 }
 
-/// A blockage, from the dash of its entry to the semicolon.
+/// A blockage, from the dash of its entry to the semicolon, and whether its clauses keep it.
 #[tactic(auto, unfolding(leg_grammar::specs::Def::Blockage::blockage_at))]
 fn blockage<A: Allocator + Copy>(
     alloc: A,
+    profile: Profile,
     library: &Library<'_, A>,
     words: &mut Cursor<'_, '_>,
-) -> Result<Blockage<A>, ReadFault>
-    ensures { Reads blockage_said result words.new (blockage_at library.now words.old) }
+) -> Result<(Blockage<A>, bool), ReadFault>
+    ensures { Reads (λ said. (blockage_said said.0, said.1)) result words.new (blockage_at profile library.now words.old) }
 {
     words.mark(b'-')?;
     let layer = blocked_layer(library, words)?;
-    past_clauses(words)?;
+    let kept = clauses(profile, layer, words)?;
     let rects = Items::from_vec(rects(alloc, words)?);
     match layer {
-        Some(layer) => Ok(Blockage::LayerRects { layer, rects }),
-        None => Ok(Blockage::Placement { rects }),
+        Some(layer) => Ok((Blockage::LayerRects { layer, rects }, kept)),
+        None => Ok((Blockage::Placement { rects }, kept)),
     }
 }
 
@@ -220,15 +208,16 @@ fn blockage<A: Allocator + Copy>(
 #[tactic(auto, unfolding(leg_grammar::specs::Def::Blockage::blockage_entry))]
 fn entry<A: Allocator + Copy>(
     alloc: A,
+    profile: Profile,
     library: &Library<'_, A>,
     blockages: &mut BlockageList<A>,
     words: &mut Cursor<'_, '_>,
 ) -> Result<(), ReadFault>
-    ensures { Reads (λ _. blockages.new) result words.new (blockage_entry library.now blockages.old words.old) }
+    ensures { Reads (λ _. blockages.new) result words.new (blockage_entry profile library.now blockages.old words.old) }
 {
     let dash = words.again();
-    let blockage = blockage(alloc, library, words)?;
-    if !is_kept(library, &blockage) {
+    let (blockage, kept) = blockage(alloc, profile, library, words)?;
+    if !kept || !is_kept(library, &blockage) {
         return Ok(());
     }
     if !blockages.has_room_for(&blockage) {
@@ -242,14 +231,15 @@ fn entry<A: Allocator + Copy>(
 #[tactic(auto, using(leg_lex::proofs::Until::ends, leg_lex::proofs::Until::goes_on, leg_lex::proofs::Until::fails, crate::proofs::Blockages::entry_shortens, crate::proofs::Blockages::entry_shorter))]
 fn entries<A: Allocator + Copy>(
     alloc: A,
+    profile: Profile,
     library: &Library<'_, A>,
     words: &mut Cursor<'_, '_>,
 ) -> Result<BlockageList<A>, ReadFault>
-    ensures { Reads (λ b. b) result words.new (until at_end (blockage_entry library.now) [] words.old) }
+    ensures { Reads (λ b. b) result words.new (until at_end (blockage_entry profile library.now) [] words.old) }
 {
     let mut blockages = BlockageList::new(alloc);
     'entries: while !words.is_at(b"END") {
-        entry(alloc, library, &mut blockages, words)?;
+        entry(alloc, profile, library, &mut blockages, words)?;
     }
     Ok(blockages)
 }
@@ -258,13 +248,14 @@ fn entries<A: Allocator + Copy>(
 #[tactic(auto, unfolding(leg_grammar::specs::Def::Blockage::blockages_at, leg_grammar::specs::Def::Section::section_at))]
 pub fn blockages<A: Allocator + Copy>(
     alloc: A,
+    profile: Profile,
     library: &Library<'_, A>,
     words: &mut Cursor<'_, '_>,
 ) -> Result<Vec<Blockage<A>, A>, ReadFault>
-    ensures { Reads (λ v. map blockage_said v.items) result words.new (blockages_at library.now words.old) }
+    ensures { Reads (λ v. map blockage_said v.items) result words.new (blockages_at profile library.now words.old) }
 {
     section_start(b"BLOCKAGES", words)?;
-    let blockages = entries(alloc, library, words)?;
+    let blockages = entries(alloc, profile, library, words)?;
     words.end(b"BLOCKAGES")?;
     Ok(blockages.into_vec())
 }

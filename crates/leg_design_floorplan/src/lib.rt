@@ -5,11 +5,19 @@
 #![tactic(auto)]
 
 pub mod blockage;
+mod blockage_clause;
 pub mod component;
+mod cut_pattern;
 pub mod die;
+pub mod dropped_row;
+mod generated_clauses;
+mod generated_via;
 pub mod pin;
 mod pin_parts;
 mod port;
+mod port_via;
 pub mod row;
 pub mod track;
+mod track_mask;
 pub mod via;
+mod via_list;

@@ -3,15 +3,16 @@
 ghost use Rattle.std.specs.Prelude.{◌≡◌, None, OnOk, IfOk};
 ghost use Rattle.leg_lex.specs.Words.{Means};
 ghost use Rattle.leg_lex.specs.Until.{over};
-ghost use Rattle.leg_grammar.specs.Def.PinClauses.{no_pin_clauses, net_of_pin, word_in, last_port, all_ports, port_start, port_rect, port_place, pin_net_clause, direction_clause, pin_use_clause, pin_clause};
+ghost use Rattle.leg_grammar.specs.Def.PinClauses.{no_pin_clauses, net_of_pin, word_in, last_port, all_ports, port_start, port_rect, port_via, port_place, pin_net_clause, direction_clause, pin_use_clause, pin_clause};
 
 use crate::port::{empty_port, layer_rect};
+use crate::port_via::push_via;
+use leg_design_common::NetScope;
 use leg_design_common::clause::clause;
 use leg_design_common::layers::push_rect;
 use leg_design_common::placement::{placed, says_place};
 use leg_design_records::Port;
 use leg_lex::{Cursor, FaultKind, Name, Need, ReadFault};
-use leg_lib_records::Library;
 use std::alloc::{AllocError, Allocator};
 use std::marker::Model;
 
@@ -144,14 +145,30 @@ impl<'a, A: Allocator + Copy> PinParts<'a, A> {
     fn port_rect(
         &mut self,
         alloc: A,
-        library: &Library<'_, A>,
+        scope: &NetScope<'_, '_, A>,
         clause: &mut Cursor<'_, 'a>,
     ) -> Result<(), ReadFault>
-        ensures { Means (λ _. self.new) result (port_rect library.now self.old clause.old) }
+        ensures { Means (λ _. self.new) result (port_rect scope.now self.old clause.old) }
     {
-        let (layer, rect) = layer_rect(library, clause)?;
+        let (layer, rect) = layer_rect(scope.profile, scope.library, clause)?;
         let mut port = self.take_last(alloc)?;
-        push_rect(library, layer, rect, &mut port.shapes)?;
+        push_rect(scope.library, layer, rect, &mut port.shapes)?;
+        self.last = Some(port);
+        Ok(())
+    }
+
+    /// `VIA`, which adds the rectangles of a via to the last port.
+    #[tactic(auto, unfolding(leg_grammar::specs::Def::PinClauses::port_via))]
+    fn port_via(
+        &mut self,
+        alloc: A,
+        scope: &NetScope<'_, '_, A>,
+        clause: &mut Cursor<'_, 'a>,
+    ) -> Result<(), ReadFault>
+        ensures { Means (λ _. self.new) result (port_via scope.now self.old clause.old) }
+    {
+        let mut port = self.take_last(alloc)?;
+        push_via(scope, &mut port.shapes, clause)?;
         self.last = Some(port);
         Ok(())
     }
@@ -177,10 +194,10 @@ impl<'a, A: Allocator + Copy> PinParts<'a, A> {
     fn add(
         &mut self,
         alloc: A,
-        library: &Library<'_, A>,
+        scope: &NetScope<'_, '_, A>,
         part: &mut Cursor<'_, 'a>,
     ) -> Result<(), ReadFault>
-        ensures { Means (λ _. self.new) result (pin_clause library.now self.old part.old) }
+        ensures { Means (λ _. self.new) result (pin_clause scope.now self.old part.old) }
     {
         if part.is_at(b"NET") {
             self.net_clause(part)
@@ -191,10 +208,12 @@ impl<'a, A: Allocator + Copy> PinParts<'a, A> {
         } else if part.is_at(b"PORT") {
             self.port_start(alloc, part)
         } else if part.is_at(b"LAYER") {
-            self.port_rect(alloc, library, part)
+            self.port_rect(alloc, scope, part)
         } else if says_place(part) {
             self.port_place(alloc, part)
-        } else if part.is_at(b"POLYGON") || part.is_at(b"VIA") || part.is_at(b"MASK") {
+        } else if part.is_at(b"VIA") {
+            self.port_via(alloc, scope, part)
+        } else if part.is_at(b"POLYGON") || part.is_at(b"MASK") {
             Err(part.fault(FaultKind::Unsupported))
         } else {
             clause(part)
@@ -206,14 +225,14 @@ impl<'a, A: Allocator + Copy> PinParts<'a, A> {
 #[tactic(auto, using(leg_lex::proofs::EachElement::over_ends, leg_lex::proofs::EachElement::over_goes_on, leg_lex::proofs::EachElement::over_fails))]
 pub(crate) fn all_parts<'a, A: Allocator + Copy>(
     alloc: A,
-    library: &Library<'_, A>,
+    scope: &NetScope<'_, '_, A>,
     clauses: &[Cursor<'_, 'a>],
 ) -> Result<PinParts<'a, A>, ReadFault>
-    ensures { Means (λ p. p) result (over (pin_clause library.now) no_pin_clauses clauses.now) }
+    ensures { Means (λ p. p) result (over (pin_clause scope.now) no_pin_clauses clauses.now) }
 {
     let mut parts = PinParts::new(alloc);
     for clause in clauses {
-        parts.add(alloc, library, &mut clause.again())?;
+        parts.add(alloc, scope, &mut clause.again())?;
     }
     Ok(parts)
 }

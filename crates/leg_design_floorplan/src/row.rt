@@ -15,7 +15,7 @@ use leg_lib_records::{Library, Site};
 use std::alloc::Allocator;
 
 /// Whether a row may have this orientation: it may be mirrored, but not turned.
-fn is_upright(orient: Orient) -> bool
+pub(crate) fn is_upright(orient: Orient) -> bool
     ensures { result ≡ is_upright orient }
 {
     matches!(orient, Orient::N | Orient::S | Orient::FN | Orient::FS)
@@ -34,7 +34,7 @@ pub(crate) fn ends_within(start: i64, steps: i64, step: i64) -> bool
 
 /// The number of a site, and the site. A name that no site of the library has is `UnknownName`.
 #[tactic(auto, using(crate::proofs::Rows::site_within, crate::proofs::Rows::site_read), unfolding(leg_grammar::specs::Def::Row::site_named_at))]
-fn site<'l, 'a, A: Allocator + Copy>(
+pub(crate) fn site<'l, 'a, A: Allocator + Copy>(
     library: &'l Library<'a, A>,
     words: &mut Cursor<'_, '_>,
 ) -> Result<(usize, &'l Site<'a>), ReadFault>

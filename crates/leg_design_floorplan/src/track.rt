@@ -6,7 +6,9 @@ ghost use Rattle.leg_grammar.specs.Def.Guard.{is_over};
 ghost use Rattle.leg_grammar.specs.Def.Track.{axis_at, one_layer, layers_in, track_in, track_at};
 
 use crate::row::ends_within;
+use crate::track_mask::past_track_mask;
 use leg_design_records::{Axis, Track};
+use leg_grammar::Profile;
 use leg_lex::{Cursor, FaultKind, NameKind, Need, ReadFault};
 use leg_lib_records::{Items, Library};
 use std::alloc::Allocator;
@@ -84,10 +86,11 @@ fn layers<A: Allocator + Copy>(
 #[tactic(auto, using(leg_design_common::proofs::Numbers::whole_is_number), unfolding(leg_grammar::specs::Def::Track::track_in))]
 fn track_of<A: Allocator + Copy>(
     alloc: A,
+    profile: Profile,
     library: &Library<'_, A>,
     statement: &mut Cursor<'_, '_>,
 ) -> Result<Track<A>, ReadFault>
-    ensures { Means (λ t. t) result (track_in library.now statement.old) }
+    ensures { Means (λ t. t) result (track_in profile library.now statement.old) }
 {
     statement.keyword(b"TRACKS")?;
     let axis = axis(statement)?;
@@ -108,6 +111,7 @@ fn track_of<A: Allocator + Copy>(
     if !ends_within(start, count - 1, step) {
         return Err(place.need(FaultKind::TooLarge, Need::EndInRange));
     }
+    past_track_mask(profile, statement)?;
     let layers = layers(alloc, library, statement)?;
     Ok(Track {
         axis,
@@ -122,11 +126,12 @@ fn track_of<A: Allocator + Copy>(
 #[tactic(auto, unfolding(leg_grammar::specs::Def::Track::track_at))]
 pub fn track<A: Allocator + Copy>(
     alloc: A,
+    profile: Profile,
     library: &Library<'_, A>,
     words: &mut Cursor<'_, '_>,
 ) -> Result<Track<A>, ReadFault>
-    ensures { Reads (λ t. t) result words.new (track_at library.now words.old) }
+    ensures { Reads (λ t. t) result words.new (track_at profile library.now words.old) }
 {
     let mut statement = words.statement()?;
-    track_of(alloc, library, &mut statement)
+    track_of(alloc, profile, library, &mut statement)
 }

@@ -4,11 +4,15 @@ ghost use Rattle.std.specs.Prelude.{◌≡◌, []};
 ghost use Rattle.leg_lex.specs.Words.{Reads, Means};
 ghost use Rattle.leg_lex.specs.Until.{over, until};
 ghost use Rattle.leg_lex.specs.Statements.{at_end};
-ghost use Rattle.leg_grammar.specs.Def.Via.{via_rect, is_other_via, via_clause, via_head, via_in, via_entry, vias_at};
+ghost use Rattle.leg_grammar.specs.Def.GeneratedVia.{is_generated};
+ghost use Rattle.leg_grammar.specs.Def.Via.{via_rect, is_other_via, via_clause, via_head, shapes_in, via_in, via_entry, vias_at};
 
+use crate::generated_via::generated_shapes;
+use crate::via_list::ViaList;
 use leg_design_common::clause::{clause, rect_or_mask};
 use leg_design_common::layers::{layer, push_rect};
 use leg_design_common::section_start;
+use leg_grammar::Profile;
 use leg_lex::{Cursor, FaultKind, Name, NameKind, NamedList, Need, ReadFault, clauses};
 use leg_lib_records::{Library, ShapeList, Via};
 use std::alloc::Allocator;
@@ -79,11 +83,42 @@ fn all_shapes<A: Allocator + Copy>(
     Ok(shapes)
 }
 
+/// Whether a via is generated: one of its clauses is `VIARULE`.
+fn is_generated(clauses: &[Cursor<'_, '_>]) -> bool
+    ensures { result ≡ is_generated clauses.now }
+{
+    clauses.iter().any(|clause| clause.is_at(b"VIARULE"))
+}
+
+/// The shapes that the clauses of a via say. The wide profile takes generated vias too.
+#[tactic(auto, unfolding(leg_grammar::specs::Def::Via::shapes_in))]
+fn shapes<'a, A: Allocator + Copy>(
+    alloc: A,
+    profile: Profile,
+    library: &Library<'_, A>,
+    vias: &ViaList<'a, A>,
+    clauses: &[Cursor<'_, 'a>],
+    entry: &Cursor<'_, 'a>,
+) -> Result<ShapeList<A>, ReadFault>
+    ensures { Means (λ v. v) result (shapes_in profile library.now vias.now clauses.now) }
+{
+    match profile {
+        Profile::Narrow => all_shapes(alloc, library, clauses),
+        Profile::Wide { .. } => {
+            if is_generated(clauses) {
+                generated_shapes(alloc, library, vias, clauses, entry)
+            } else {
+                all_shapes(alloc, library, clauses)
+            }
+        }
+    }
+}
+
 /// The entry's head: `- NAME`, a name that no via of the library and none before has.
 #[tactic(auto, unfolding(leg_grammar::specs::Def::Via::via_head))]
 fn via_head<'a, A: Allocator + Copy>(
     library: &Library<'_, A>,
-    vias: &NamedList<'a, Via<'a, A>, A>,
+    vias: &ViaList<'a, A>,
     head: &mut Cursor<'_, 'a>,
 ) -> Result<&'a [u8], ReadFault>
     ensures { Means (λ name. name.now) result (via_head library.now vias.now head.old) }
@@ -91,7 +126,7 @@ fn via_head<'a, A: Allocator + Copy>(
     head.mark(b'-')?;
     let named = head.again();
     let name = head.name()?;
-    if library.via_named(name).is_some() || vias.place_of(name).is_some() {
+    if library.via_named(name).is_some() || vias.has(name) {
         return Err(named.need(FaultKind::DuplicateName, Need::New(NameKind::Via)));
     }
     head.nothing_more()?;
@@ -102,18 +137,19 @@ fn via_head<'a, A: Allocator + Copy>(
 #[tactic(auto, unfolding(leg_grammar::specs::Def::Via::via_in))]
 fn via<'a, A: Allocator + Copy>(
     alloc: A,
+    profile: Profile,
     library: &Library<'_, A>,
-    vias: &NamedList<'a, Via<'a, A>, A>,
+    vias: &ViaList<'a, A>,
     entry: &Cursor<'_, 'a>,
     parts: &[Cursor<'_, 'a>],
 ) -> Result<Via<'a, A>, ReadFault>
-    ensures { Means (λ v. v) result (via_in library.now vias.now parts.now) }
+    ensures { Means (λ v. v) result (via_in profile library.now vias.now parts.now) }
 {
     let [head, clauses @ ..] = parts else {
         return Err(entry.fault(FaultKind::Unexpected));
     };
     let name = via_head(library, vias, &mut head.again())?;
-    let shapes = all_shapes(alloc, library, clauses)?;
+    let shapes = shapes(alloc, profile, library, vias, clauses, entry)?;
     let good = library.is_good_via(alloc, name, shapes.as_slice())?;
     Ok(Via {
         name: Name::new(name),
@@ -127,16 +163,17 @@ fn via<'a, A: Allocator + Copy>(
 #[tactic(auto, using(crate::proofs::Vias::name_is_fresh), unfolding(leg_grammar::specs::Def::Via::via_entry))]
 fn entry<'a, A: Allocator + Copy>(
     alloc: A,
+    profile: Profile,
     library: &Library<'_, A>,
-    vias: &mut NamedList<'a, Via<'a, A>, A>,
+    vias: &mut ViaList<'a, A>,
     words: &mut Cursor<'_, 'a>,
 ) -> Result<(), ReadFault>
-    ensures { Reads (λ _. vias.new) result words.new (via_entry library.now vias.old words.old) }
+    ensures { Reads (λ _. vias.new) result words.new (via_entry profile library.now vias.old words.old) }
 {
     let statement = words.statement()?;
     let parts = clauses(alloc, &statement)?;
-    let via = via(alloc, library, vias, &statement, &parts)?;
-    vias.push(via.name.bytes(), via)?;
+    let via = via(alloc, profile, library, vias, &statement, &parts)?;
+    vias.push(via)?;
     Ok(())
 }
 
@@ -144,14 +181,15 @@ fn entry<'a, A: Allocator + Copy>(
 #[tactic(auto, using(leg_lex::proofs::Until::ends, leg_lex::proofs::Until::goes_on, leg_lex::proofs::Until::fails, crate::proofs::Vias::entry_shortens, crate::proofs::Vias::entry_shorter))]
 fn entries<'a, A: Allocator + Copy>(
     alloc: A,
+    profile: Profile,
     library: &Library<'_, A>,
     words: &mut Cursor<'_, 'a>,
-) -> Result<NamedList<'a, Via<'a, A>, A>, ReadFault>
-    ensures { Reads (λ t. t) result words.new (until at_end (via_entry library.now) [] words.old) }
+) -> Result<ViaList<'a, A>, ReadFault>
+    ensures { Reads (λ v. v) result words.new (until at_end (via_entry profile library.now) [] words.old) }
 {
-    let mut vias = NamedList::new(alloc);
+    let mut vias = ViaList::new(alloc);
     'entries: while !words.is_at(b"END") {
-        entry(alloc, library, &mut vias, words)?;
+        entry(alloc, profile, library, &mut vias, words)?;
     }
     Ok(vias)
 }
@@ -160,17 +198,18 @@ fn entries<'a, A: Allocator + Copy>(
 #[tactic(auto, unfolding(leg_grammar::specs::Def::Via::vias_at, leg_grammar::specs::Def::Section::section_at))]
 pub fn vias<'a, A: Allocator + Copy>(
     alloc: A,
+    profile: Profile,
     library: &Library<'_, A>,
     words: &mut Cursor<'_, 'a>,
 ) -> Result<NamedList<'a, Via<'a, A>, A>, ReadFault>
-    ensures { Reads (λ t. t) result words.new (vias_at library.now words.old) }
+    ensures { Reads (λ t. t) result words.new (vias_at profile library.now words.old) }
 {
     section_start(b"VIAS", words)?;
     let start = words.again();
-    let vias = match entries(alloc, library, words) {
+    let vias = match entries(alloc, profile, library, words) {
         Ok(vias) => vias,
         Err(fault) => return Err(start.with_first_entry(fault)),
     };
     words.end(b"VIAS")?;
-    Ok(vias)
+    Ok(vias.into_list())
 }

@@ -19,10 +19,13 @@ mod MoreTerminals
 -- Paths, item by item.
 mod Paths
 mod ViaLayers
+mod ViaArrays
 mod Walks
 mod PathItems
 mod ReadPaths
 -- Clauses of an entry, and the wiring in them.
 mod Wirings
+mod SpecialShapes
 mod ReadWiring
+mod ReadShapes
 mod NetClauses

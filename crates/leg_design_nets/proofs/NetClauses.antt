@@ -5,16 +5,17 @@ use Rattle.std.proofs.lemmas.Bool.Decides.{nat_tests}
 use Rattle.leg_lex.specs.Words.{Words, is_keyword, is_at, next_at}
 use Rattle.leg_lex.specs.Statements.{is_plus}
 use Rattle.leg_lex.specs.Until.{until}
-use Rattle.leg_lex.proofs.Until.{Below, Shortens, below_none, below_some, below_bind, below_ask, below_if, below_more}
+use Rattle.leg_lex.proofs.Until.{Below, Shortens, below_some, below_bind, below_ask, below_if, below_more}
 use Rattle.leg_lex.proofs.Until as loops
 use Rattle.leg_lex.proofs.Parts.{rest_is}
 use Rattle.leg_lex.proofs.Shorter.{mark_below, keyword_below, word_below}
 use Rattle.leg_grammar.specs.Def.Guard.{unless, is_over}
 use Rattle.leg_grammar.specs.Def.NetScope.{NetScopeModel}
 use Rattle.leg_grammar.specs.Def.Wiring.{is_wiring}
-use Rattle.leg_grammar.specs.Def.Net.{NetParts, is_left_out, use_clause, wiring_clause, from_plus, past_clause, clause_at, net_clause}
+use Rattle.leg_grammar.specs.Def.Net.{NetParts, is_left_out, use_clause, wiring_clause, shape_clause, from_plus, past_clause, clause_at, net_clause}
 use Rattle.leg_design_common.proofs.Guards.{over_is, not_over_is}
 use Rattle.leg_design_nets.proofs.Wirings.{wiring_below}
+use Rattle.leg_design_nets.proofs.SpecialShapes.{shape_below}
 
 -- a plus has no capitals
 lower_plus : (b : ℕ) → (to_ascii_lowercase b == 43) ≡ (b == 43)
@@ -83,6 +84,13 @@ wiring_clause_below scope special parts clause =
     below_bind (omega arith) (wiring_below scope special clause) (λ wires less.
     below_some (record parts { wires = parts.wires ++ wires.0 }) wires.1 less)
 
+shape_clause_below : (scope : NetScopeModel) (special : Bool) (parts : NetParts) (clause : Words)
+    → Below (length clause) (shape_clause scope special parts clause)
+unfolding shape_clause
+shape_clause_below scope special parts clause =
+    below_bind (omega arith) (shape_below scope.profile scope special clause) (λ wires less.
+    below_some (record parts { wires = parts.wires ++ wires.0 }) wires.1 less)
+
 past_clause_below : (parts : NetParts) (clause : Words) → Below (length clause) (past_clause parts clause)
 unfolding past_clause
 past_clause_below parts clause =
@@ -94,7 +102,7 @@ unfolding clause_at
 clause_below scope special parts clause =
     below_if (is_at (codes "USE") clause) (use_clause_below parts clause)
     (below_if (is_wiring special clause) (wiring_clause_below scope special parts clause)
-    (below_if (is_left_out special clause) (below_none (length clause)) (past_clause_below parts clause)))
+    (below_if (is_left_out special clause) (shape_clause_below scope special parts clause) (past_clause_below parts clause)))
 
 pub net_clause_shortens : (scope : NetScopeModel) (special : Bool) → Shortens (net_clause scope special)
 unfolding net_clause

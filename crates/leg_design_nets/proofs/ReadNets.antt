@@ -17,13 +17,14 @@ use Rattle.leg_grammar.specs.Def.NetScope.{NetScopeModel}
 use Rattle.leg_grammar.specs.Def.Terminal.{is_of_other_net, at_no_terminal, terminal_form}
 use Rattle.leg_grammar.specs.Def.Wiring.{is_wiring}
 use Rattle.leg_design_records.specs.Records.{NetModel, net_names, terminal_count, wire_count}
-use Rattle.leg_grammar.specs.Def.Net.{NetParts, no_net_parts, is_left_out, use_clause, wiring_clause, past_clause, clause_at, net_clause, net_name_at, net_in, are_too_many, net_entry, nets_at}
+use Rattle.leg_grammar.specs.Def.Net.{NetParts, no_net_parts, is_left_out, use_clause, wiring_clause, shape_clause, past_clause, clause_at, net_clause, net_name_at, net_in, are_too_many, net_entry, nets_at}
 use Rattle.leg_design_records.specs.Names.{net_section}
 use Rattle.leg_design_records.specs.WellFormedParts.{IsKept}
 use Rattle.leg_design_records.specs.WellFormedNets.{IsWire, AreInOneNet}
-use Rattle.leg_design_common.proofs.Gives.{Gives, gives_none, gives_some, gives_bind, gives_skip, gives_if, unless_gives, name_gives, word_gives, section_gives}
+use Rattle.leg_design_common.proofs.Gives.{Gives, gives_some, gives_bind, gives_skip, gives_if, unless_gives, name_gives, word_gives, section_gives}
 use Rattle.leg_design_nets.proofs.ReadPaths.{AreWires}
 use Rattle.leg_design_nets.proofs.ReadWiring.{wiring_gives}
+use Rattle.leg_design_nets.proofs.ReadShapes.{shape_gives}
 use Rattle.leg_design_nets.proofs.TerminalsOfEntries.{of_this_net}
 use Rattle.leg_design_nets.proofs.ReadTerminals.{AreKnown, AreTerminals, no_terminals, terminal_gives}
 
@@ -59,6 +60,12 @@ module _ (scope : NetScopeModel) (special : Bool) where
         gives_bind (wiring_gives scope special clause) (λ wires more.
         gives_some _ (record { usage = before.usage; wires = All-append (IsWire scope.library scope.vias special) parts.wires wires.0 before.wires more }))
 
+    shape_keeps : Keeps (shape_clause scope special parts clause)
+    unfolding shape_clause
+    shape_keeps =
+        gives_bind (shape_gives scope scope.profile special clause) (λ wires more.
+        gives_some _ (record { usage = before.usage; wires = All-append (IsWire scope.library scope.vias special) parts.wires wires.0 before.wires more }))
+
     past_keeps : Keeps (past_clause parts clause)
     unfolding past_clause
     past_keeps = gives_skip (word_at clause) (λ word. gives_some _ before)
@@ -68,7 +75,7 @@ module _ (scope : NetScopeModel) (special : Bool) where
     clause_keeps =
         gives_if (is_at (codes "USE") clause) use_keeps
         (gives_if (is_wiring special clause) wiring_keeps
-        (gives_if (is_left_out special clause) gives_none past_keeps))
+        (gives_if (is_left_out special clause) shape_keeps past_keeps))
 
   net_clause_keeps : (parts : NetParts) (words : Words) → AreNetParts parts → Gives (λ said. AreNetParts said.0) (net_clause scope special parts words)
   unfolding net_clause

@@ -1,23 +1,25 @@
 -- The wires that a path says are such as a DEF can spell.
-use Rattle.std.proofs.Common.{◌≡◌, ◌≢◌, ℕ, ℤ, pos, ◌≤ℤ◌, ◌<ℤ◌, Bool, true, false, not, ◌&&◌, ◌==◌, cond, if◌then◌else◌, List, [], ◌∷◌, All, Option, None, Some, find, unwrap_or, inl, inr, refl, sym, ap, ◌∙◌, arith}
+use Rattle.std.proofs.Common.{◌≡◌, ◌≢◌, ℕ, zero, suc, ℤ, pos, ◌+ℤ◌, ◌≤ℤ◌, ◌<ℤ◌, Bool, true, false, not, ◌&&◌, ◌==◌, cond, if◌then◌else◌, List, [], ◌∷◌, All, Option, None, Some, find, unwrap_or, inl, inr, refl, sym, ap, ◌∙◌, arith}
 use Rattle.std.specs.Ordering.{int_eq}
 use Rattle.std.specs.List.{list_any}
 use Rattle.std.proofs.lemmas.Int.{ints}
 use Rattle.std.proofs.lemmas.Bool.{and_parts, and_from, true≢false}
-use Rattle.std.proofs.lemmas.Bool.Decides.{Decides-int_eq}
-use Rattle.std.proofs.lemmas.List.Elements.{All-nil, All-cons, All-head, All-tail}
+use Rattle.std.proofs.lemmas.Bool.Decides.{Decides-int_eq, nat_tests}
+use Rattle.std.proofs.lemmas.List.Elements.{All-nil, All-cons, All-head, All-tail, All-append}
 use Rattle.leg_lex.specs.Number.{IsNumber}
 use Rattle.leg_geom.specs.Plane.{PointModel}
 use Rattle.leg_lib_records.specs.declared.records.Shape.{Shape}
 use Rattle.leg_lib_records.specs.Records.{ViaModel}
 use Rattle.leg_design_records.specs.declared.records.Wire.{Wire}
 use Rattle.leg_design_records.specs.declared.records.Wire.TheVariants.{ViaAt, Patch}
-use Rattle.leg_grammar.specs.Def.Guard.{when}
+use Rattle.leg_grammar.specs.Def.Guard.{when, is_within}
 use Rattle.leg_design_records.specs.Layers.{width_of_layer, is_routing}
 use Rattle.leg_grammar.specs.Def.NetScope.{NetScopeModel, via_numbered}
 use Rattle.leg_design_records.specs.Wires.{is_even}
 use Rattle.leg_grammar.specs.declared.path_item.Item.{Item}
-use Rattle.leg_grammar.specs.declared.path_item.Item.TheVariants.{ToPoint, AtVia, AtRect}
+use Rattle.leg_grammar.specs.declared.path_item.Item.TheVariants.{ToPoint, ToVirtual, AtVia, AtArray, AtRect}
+use Rattle.leg_grammar.specs.declared.via_array.ViaArray.{ViaArray}
+use Rattle.leg_grammar.specs.Def.ViaArray.{row_vias, rows_vias}
 use Rattle.leg_grammar.specs.Def.Path.{next_spot, is_same_spot, last_given, extension_at, segment_to, segment_width, other_layer, across, wires_from, path_wires}
 use Rattle.leg_design_records.specs.Wires.{is_straight, default_extension}
 use Rattle.leg_design_records.specs.WellFormedParts.{IsPosition, IsArea}
@@ -36,7 +38,9 @@ IsNumberIfAny (Some z) = IsNumber z
 -- an item of a path
 abbrev pub IsItem : Bool → Item → Type 0
 IsItem special (ToPoint x y extension) = IsNumberIfAny x × IsNumberIfAny y × IsGiven extension
+IsItem special (ToVirtual x y) = IsNumberIfAny x × IsNumberIfAny y
 IsItem special (AtVia via) = Unit {0}
+IsItem special (AtArray via array) = Unit {0}
 IsItem special (AtRect rect) = (special ≡ false) × IsArea rect
 
 -- the width that is written: in SPECIALNETS only
@@ -45,6 +49,9 @@ IsWritten false None = Unit {0}
 IsWritten false (Some width) = ⊥
 IsWritten true None = ⊥
 IsWritten true (Some width) = IsNumber width × (pos 0 ≤ℤ width) × (is_even width ≡ true)
+
+pub within_is : (z : ℤ) → is_within z ≡ true → IsNumber z
+within_is z within = grind (arith, nat_tests)
 
 coordinate_is : (z : Option ℤ) (before : ℤ) → IsNumberIfAny z → IsNumber before → IsNumber (unwrap_or z before)
 coordinate_is None before number at = at
@@ -70,8 +77,11 @@ extension_is special (ToPoint x y extension ∷ items) at given each is =
     let rest = All-tail (IsItem special) (ToPoint x y extension) items each in
     either_given (is_same_spot at (next_spot at x y)) (extension_at at (last_given given extension) items) given
     (extension_is special items at (last_given given extension) rest (last_is_given given extension is item.2)) is
+extension_is special (ToVirtual x y ∷ items) at given each is = is
 extension_is special (AtVia via ∷ items) at given each is =
     extension_is special items at given (All-tail (IsItem special) (AtVia via) items each) is
+extension_is special (AtArray via array ∷ items) at given each is =
+    extension_is special items at given (All-tail (IsItem special) (AtArray via array) items each) is
 extension_is special (AtRect rect ∷ items) at given each is =
     extension_is special items at given (All-tail (IsItem special) (AtRect rect) items each) is
 
@@ -171,6 +181,28 @@ module _ (scope : NetScopeModel) (special : Bool) where
         to_extension = extension_holds width layer there is end.given;
       })))
 
+  -- a via of an array, where its point is within the limit
+  is_via : (number other : ℕ) (at : PointModel) → LeadsTo number other → IsPosition at → IsWire scope.library scope.vias special (ViaAt number at)
+  is_via number other at leads position = (position, (leads.via, leads.there, leads.good))
+
+  row_gives : (number other : ℕ) → LeadsTo number other → (step : ℤ) (n : ℕ) (at : PointModel) → IsNumber at.y → Gives AreWires (row_vias number step n at)
+  unfolding row_vias
+  row_gives number other leads step zero at high = gives_some [] (All-nil (IsWire scope.library scope.vias special))
+  row_gives number other leads step (suc n) at high =
+      gives_bind (when_gives (is_within at.x)) (λ within wide.
+      gives_bind (row_gives number other leads step n (record { x = at.x +ℤ step; y = at.y }) high) (λ others are.
+      gives_some _ (All-cons (IsWire scope.library scope.vias special) (ViaAt number at) others
+      (is_via number other at leads (record { x = within_is at.x wide; y = high })) are)))
+
+  rows_give : (number other : ℕ) → LeadsTo number other → (array : ViaArray) (n : ℕ) (at : PointModel) → Gives AreWires (rows_vias number array n at)
+  unfolding rows_vias
+  rows_give number other leads array zero at = gives_some [] (All-nil (IsWire scope.library scope.vias special))
+  rows_give number other leads array (suc n) at =
+      gives_bind (when_gives (is_within at.y)) (λ within high.
+      gives_bind (row_gives number other leads array.x_step array.columns at (within_is at.y high)) (λ row in_row.
+      gives_bind (rows_give number other leads array n (record { x = at.x; y = at.y +ℤ array.y_step })) (λ others are.
+      gives_some _ (All-append (IsWire scope.library scope.vias special) row others in_row are))))
+
   pub wires_give : (width : Option ℤ) → IsWritten special width → (items : List Item) (layer : ℕ) (at : PointModel) (extension : Option ℤ)
       → is_routing scope.library layer ≡ true → IsPosition at → IsGiven extension → All (IsItem special) items
       → Gives AreWires (wires_from scope width layer at extension items)
@@ -187,10 +219,21 @@ module _ (scope : NetScopeModel) (special : Bool) where
       (λ segment spelled.
       gives_bind (wires_give width is items layer (next_spot at x y) (extension_at (next_spot at x y) next items) routes there further rest) (λ wires are.
       gives_some _ (All-cons (IsWire scope.library scope.vias special) segment wires spelled are))))
+  wires_give width is (ToVirtual x y ∷ items) layer at extension routes position given each =
+      let item = All-head (IsItem special) (ToVirtual x y) items each in
+      let rest = All-tail (IsItem special) (ToVirtual x y) items each in
+      wires_give width is items layer (next_spot at x y) (extension_at (next_spot at x y) None items) routes
+      (next_is at x y position item.0 item.1) (extension_is special items (next_spot at x y) None rest tt) rest
   wires_give width is (AtVia via ∷ items) layer at extension routes position given each =
       gives_bind (across_gives via layer) (λ other leads.
       gives_bind (wires_give width is items other at extension leads.routes position given (All-tail (IsItem special) (AtVia via) items each)) (λ wires are.
-      gives_some _ (All-cons (IsWire scope.library scope.vias special) (ViaAt via at) wires (position, (leads.via, leads.there, leads.good)) are)))
+      gives_some _ (All-cons (IsWire scope.library scope.vias special) (ViaAt via at) wires (is_via via other at leads position) are)))
+  wires_give width is (AtArray via array ∷ items) layer at extension routes position given each =
+      gives_bind (across_gives via layer) (λ other leads.
+      gives_bind (rows_give via other leads array array.rows at) (λ vias in_array.
+      let rest = All-tail (IsItem special) (AtArray via array) items each in
+      gives_bind (wires_give width is items other at extension leads.routes position given rest) (λ wires are.
+      gives_some _ (All-append (IsWire scope.library scope.vias special) vias wires in_array are))))
   wires_give width is (AtRect rect ∷ items) layer at extension routes position given each =
       let item = All-head (IsItem special) (AtRect rect) items each in
       gives_bind (wires_give width is items layer at extension routes position given (All-tail (IsItem special) (AtRect rect) items each)) (λ wires are.

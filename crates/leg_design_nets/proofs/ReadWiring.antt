@@ -1,5 +1,5 @@
 -- The wires that wiring says are such as a DEF can spell.
-use Rattle.std.proofs.Common.{◌≡◌, ℤ, pos, ◌≤ℤ◌, Bool, true, false, not, ◌&&◌, int_lt, List, [], All, Option, Some, codes, refl, sym}
+use Rattle.std.proofs.Common.{◌≡◌, ℕ, ℤ, pos, ◌≤ℤ◌, Bool, true, false, not, ◌&&◌, int_lt, List, [], All, Option, Some, codes, refl, sym}
 use Rattle.std.proofs.lemmas.List.Elements.{All-nil, All-push, All-append}
 use Rattle.leg_lemmas.proofs.Integers.{least_from_test}
 use Rattle.leg_lex.specs.Words.{Words, is_at, keyword_at, mark_at, name_at}
@@ -8,15 +8,18 @@ use Rattle.leg_lex.specs.Number.{IsNumber}
 use Rattle.leg_lex.specs.NameLookup.{place_of}
 use Rattle.leg_lex.proofs.GivesAll.{until_gives}
 use Rattle.leg_geom.specs.Plane.{PointModel}
-use Rattle.leg_lib_records.specs.Joins.{is_wiring_word}
 use Rattle.leg_lib_records.specs.Records.{layer_names}
 use Rattle.leg_design_records.specs.declared.records.Wire.{Wire}
-use Rattle.leg_grammar.specs.Def.Guard.{unless}
 use Rattle.leg_design_records.specs.Layers.{is_routing}
-use Rattle.leg_grammar.specs.Def.NetScope.{NetScopeModel, via_named}
+use Rattle.leg_grammar.specs.Def.NetScope.{NetScopeModel}
 use Rattle.leg_grammar.specs.declared.path_item.Item.{Item}
-use Rattle.leg_grammar.specs.Def.PathItem.{count_at, coordinate_at, extension_in_point, point_item, first_point_at, rect_item, past_north, via_item, item_at, one_item, at_path_end}
-use Rattle.leg_grammar.specs.Def.Wiring.{routing_at, past_taper, written_width_at, at_no_shape, past_shape, written_at, path_at, at_no_new, new_path, paths_at, wiring_start, wiring_at}
+use Rattle.leg_grammar.specs.declared.profile.Profile.{Profile}
+use Rattle.leg_grammar.specs.declared.profile.Profile.TheVariants.{Narrow, Wide}
+use Rattle.leg_grammar.specs.Def.Count.{count_at}
+use Rattle.leg_grammar.specs.Def.ViaArray.{array_at}
+use Rattle.leg_grammar.specs.Mask.{past_mask}
+use Rattle.leg_grammar.specs.Def.PathItem.{coordinate_at, extension_in_point, point_item, first_point_at, rect_item, via_at, via_item, array_of_via, via_or_array_item, virtual_item, other_item, item_without_mask, item_at, one_item, at_path_end}
+use Rattle.leg_grammar.specs.Def.Wiring.{routing_at, past_taper, written_width_at, at_no_shape, past_shape, written_at, path_at, at_no_new, new_path, paths_at, wiring_start, at_shape_clause, wires_at, wiring_at}
 use Rattle.leg_design_records.specs.Wires.{is_even}
 use Rattle.leg_design_records.specs.WellFormedParts.{IsPosition}
 use Rattle.leg_design_records.specs.WellFormedNets.{IsWire}
@@ -84,25 +87,50 @@ module _ (scope : NetScopeModel) (special : Bool) where
 
   via_item_gives : (words : Words) → Gives (λ said. IsItem special said.0) (via_item scope words)
   unfolding via_item
-  via_item_gives words =
-      gives_skip (name_at words) (λ name.
-      gives_skip (unless (is_wiring_word name.0)) (λ other.
-      gives_skip (via_named scope name.0) (λ via.
-      gives_skip (past_north name.1) (λ north.
-      gives_some _ tt))))
+  via_item_gives words = gives_skip (via_at scope words) (λ via. gives_some _ tt)
+
+  array_of_via_gives : (via : ℕ) (words : Words) → Gives (λ said. IsItem special said.0) (array_of_via via words)
+  unfolding array_of_via
+  array_of_via_gives via words =
+      gives_if (is_at (codes "DO") words) (gives_skip (array_at words) (λ array. gives_some _ tt)) (gives_some _ tt)
+
+  via_or_array_gives : (words : Words) → Gives (λ said. IsItem special said.0) (via_or_array_item scope words)
+  unfolding via_or_array_item
+  via_or_array_gives words = gives_skip (via_at scope words) (λ via. array_of_via_gives via.0 via.1)
+
+  virtual_item_gives : (words : Words) → Gives (λ said. IsItem special said.0) (virtual_item words)
+  unfolding virtual_item
+  virtual_item_gives words =
+      gives_skip (keyword_at (codes "VIRTUAL") words) (λ start.
+      gives_skip (mark_at 40 start.1) (λ open_.
+      gives_bind (coordinate_gives open_.1) (λ x wide.
+      gives_bind (coordinate_gives x.1) (λ y high.
+      gives_skip (mark_at 41 y.1) (λ close.
+      gives_some _ (wide, high))))))
+
+  other_item_gives : (profile : Profile) (words : Words) → Gives (λ said. IsItem special said.0) (other_item profile scope special words)
+  unfolding other_item
+  other_item_gives Narrow words = via_item_gives words
+  other_item_gives (Wide masks soft) words =
+      gives_if special (via_or_array_gives words)
+      (gives_if (is_at (codes "VIRTUAL") words) (virtual_item_gives words) (via_item_gives words))
 
   not_special : (test special : Bool) → (test && not special) ≡ true → special ≡ false
   not_special true false is = refl
   not_special true true is = sym is
   not_special false special is = absurd (let e : ⊥ = cc in e)
 
-  item_gives : (words : Words) → Gives (λ said. IsItem special said.0) (item_at scope special words)
-  unfolding item_at
-  item_gives words =
+  without_mask_gives : (words : Words) → Gives (λ said. IsItem special said.0) (item_without_mask scope special words)
+  unfolding item_without_mask
+  without_mask_gives words =
       gives_if (is_at (codes "(") words) (point_item_gives words)
       (gives_choice (is_at (codes "RECT") words && not special)
       (λ rect. rect_item_gives (not_special (is_at (codes "RECT") words) special rect) words)
-      (λ via. via_item_gives words))
+      (λ other. other_item_gives scope.profile words))
+
+  item_gives : (words : Words) → Gives (λ said. IsItem special said.0) (item_at scope special words)
+  unfolding item_at
+  item_gives words = gives_skip (past_mask scope.profile words) (λ mask. without_mask_gives mask.1)
 
   abbrev AreItems : List Item → Type 0
   AreItems items = All (IsItem special) items
@@ -113,7 +141,7 @@ module _ (scope : NetScopeModel) (special : Bool) where
       gives_bind (item_gives words) (λ item is.
       gives_some _ (All-push (IsItem special) items item.0 each is))
 
-  routing_gives : (words : Words) → Gives (λ said. is_routing scope.library said.0 ≡ true) (routing_at scope.library words)
+  pub routing_gives : (words : Words) → Gives (λ said. is_routing scope.library said.0 ≡ true) (routing_at scope.library words)
   unfolding routing_at
   routing_gives words =
       gives_skip (name_at words) (λ name.
@@ -160,6 +188,12 @@ module _ (scope : NetScopeModel) (special : Bool) where
       gives_bind (path_at_gives words) (λ first are.
       until_gives (AreWires scope special) at_no_new (new_path scope special) new_path_gives first.0 first.1 are)
 
+  wires_at_gives : (profile : Profile) (words : Words) → Gives (λ said. AreWires scope special said.0) (wires_at profile scope special words)
+  unfolding wires_at
+  wires_at_gives Narrow words = paths_give words
+  wires_at_gives (Wide masks soft) words =
+      gives_if (special && at_shape_clause words) (gives_some _ (All-nil (IsWire scope.library scope.vias special))) (paths_give words)
+
   pub wiring_gives : (clause : Words) → Gives (λ said. AreWires scope special said.0) (wiring_at scope special clause)
   unfolding wiring_at
-  wiring_gives clause = gives_skip (wiring_start clause) (λ start. paths_give start.1)
+  wiring_gives clause = gives_skip (wiring_start clause) (λ start. wires_at_gives scope.profile start.1)

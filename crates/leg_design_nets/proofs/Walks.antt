@@ -1,21 +1,18 @@
 -- A path that is followed item by item.
-use Rattle.std.proofs.Common.{◌≡◌, ℕ, ℤ, ◌+◌, ◌<◌, ◌≤◌, Bool, true, false, List, [], ◌∷◌, ◌++◌, length, ◌-◌, get_or, take, drop, Option, None, Some, option_map, refl, sym, ap, ◌∙◌, append_assoc}
+use Rattle.std.proofs.Common.{◌≡◌, ℕ, ℤ, ◌+◌, ◌<◌, ◌≤◌, Bool, true, false, List, [], ◌∷◌, ◌++◌, length, ◌-◌, get_or, take, drop, Option, None, Some, refl, sym, ap, ◌∙◌}
 use Rattle.std.proofs.lemmas.List.{drop_more, drop_all, append-nil, take_rest}
 use Rattle.leg_lex.specs.Words.{◌>>=◌}
 use Rattle.leg_geom.specs.Plane.{PointModel, RectModel}
 use Rattle.leg_grammar.specs.declared.path_item.Item.{Item}
-use Rattle.leg_grammar.specs.declared.path_item.Item.TheVariants.{ToPoint, AtVia, AtRect}
+use Rattle.leg_grammar.specs.declared.path_item.Item.TheVariants.{ToPoint, ToVirtual, AtVia, AtArray, AtRect}
+use Rattle.leg_grammar.specs.declared.via_array.ViaArray.{ViaArray}
+use Rattle.leg_grammar.specs.Def.ViaArray.{array_vias}
 use Rattle.leg_design_records.specs.declared.records.Wire.{Wire}
 use Rattle.leg_design_records.specs.declared.records.Wire.TheVariants.{ViaAt, Patch}
 use Rattle.leg_grammar.specs.Def.NetScope.{NetScopeModel}
 use Rattle.leg_grammar.specs.Def.Path.{next_spot, is_same_spot, extension_at, segment_to, across, wires_from}
-use Rattle.leg_design_nets.specs.Steps.Walk.{PathState, wires_with, walked_to, walked_past}
-
--- one wire before the others
-one_before : (wires : List Wire) (wire : Wire) (others : Option (List Wire))
-    → option_map (λ last. wires ++ last) (others >>= λ last. Some (wire ∷ last)) ≡ option_map (λ last. (wires ++ wire ∷ []) ++ last) others
-one_before wires wire None = refl
-one_before wires wire (Some last) = ap Some (sym (append_assoc wires (wire ∷ []) last))
+use Rattle.leg_design_nets.specs.Steps.Walk.{PathState, wires_with, walked_to, walked_past_array, walked_past}
+use Rattle.leg_design_nets.proofs.ViaArrays.{one_before, many_before}
 
 module _ (scope : NetScopeModel) (written : Option ℤ) where
   -- the segment to a point, before these items
@@ -68,9 +65,23 @@ module _ (scope : NetScopeModel) (written : Option ℤ) where
   unfolding wires_from walked_past
   past_rect walk rect later = one_before walk.wires (Patch walk.layer walk.at rect) (wires_from scope written walk.layer walk.at walk.extension later)
 
+  past_array : (walk : PathState) (via : ℕ) (array : ViaArray) (later : List Item) (other : Option ℕ) → across scope via walk.layer ≡ other
+      → (vias : Option (List Wire)) → array_vias via array walk.at ≡ vias → Onwards walk (AtArray via array) later
+  unfolding wires_from walked_past walked_past_array
+  past_array walk via array later None is vias said = rw is refl
+  past_array walk via array later (Some layer) is None said = rw (is, said) refl
+  past_array walk via array later (Some layer) is (Some vias) said =
+      rw (is, said) (many_before walk.wires vias (wires_from scope written layer walk.at walk.extension later))
+
+  past_virtual : (walk : PathState) (x y : Option ℤ) (later : List Item) → Onwards walk (ToVirtual x y) later
+  unfolding wires_from walked_past
+  past_virtual walk x y later = refl
+
   past_item : (walk : PathState) (item : Item) (later : List Item) → Onwards walk item later
   past_item walk (ToPoint x y given) later = past_point walk x y given later _ refl _ refl
+  past_item walk (ToVirtual x y) later = past_virtual walk x y later
   past_item walk (AtVia via) later = past_via walk via later _ refl
+  past_item walk (AtArray via array) later = past_array walk via array later _ refl _ refl
   past_item walk (AtRect rect) later = past_rect walk rect later
 
 at_front : (items : List Item) (i : ℕ) (item : Item) → i < length items → item ≡ get_or items i item

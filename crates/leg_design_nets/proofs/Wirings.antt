@@ -1,21 +1,23 @@
 -- Paths of wiring, and clauses that say them: each takes a word at least.
-use Rattle.std.proofs.Common.{◌≡◌, suc, ◌<◌, Bool, List, [], ◌++◌, length, None, Some, codes, arith}
+use Rattle.std.proofs.Common.{◌≡◌, suc, ◌<◌, Bool, ◌&&◌, List, [], ◌++◌, length, None, Some, codes, arith}
 use Rattle.leg_lex.specs.Words.{Words, is_at}
 use Rattle.leg_lex.specs.NameLookup.{place_of}
 use Rattle.leg_lex.proofs.Until.{Below, Shortens, below_some, below_bind, below_ask, below_if, below_more, until_below}
 use Rattle.leg_lex.proofs.Shorter.{next_below, keyword_below, mark_below, name_below, word_below}
 use Rattle.leg_lib_records.specs.Records.{LibraryModel, layer_names}
 use Rattle.leg_design_records.specs.declared.records.Wire.{Wire}
+use Rattle.leg_grammar.specs.declared.profile.Profile.{Profile}
+use Rattle.leg_grammar.specs.declared.profile.Profile.TheVariants.{Narrow, Wide}
 use Rattle.leg_grammar.specs.Def.Guard.{when}
 use Rattle.leg_design_records.specs.Layers.{is_routing}
 use Rattle.leg_grammar.specs.Def.NetScope.{NetScopeModel}
 use Rattle.leg_grammar.specs.Def.Path.{path_wires}
 use Rattle.leg_grammar.specs.Def.PathItem.{one_item, at_path_end}
-use Rattle.leg_grammar.specs.Def.Wiring.{routing_at, past_taper, written_width_at, at_no_shape, past_shape, written_at, path_at, at_no_new, new_path, paths_at, wiring_start, wiring_at}
+use Rattle.leg_grammar.specs.Def.Wiring.{routing_at, past_taper, written_width_at, at_no_shape, past_shape, written_at, path_at, at_no_new, new_path, paths_at, wiring_start, at_shape_clause, wires_at, wiring_at}
 use Rattle.leg_design_records.specs.Wires.{is_even}
 use Rattle.leg_design_nets.proofs.PathItems.{count_below, first_point_below, one_item_shortens}
 
-routing_below : (library : LibraryModel) (words : Words) → Below (length words) (routing_at library words)
+pub routing_below : (library : LibraryModel) (words : Words) → Below (length words) (routing_at library words)
 unfolding routing_at
 routing_below library words =
     below_bind (omega arith) (name_below words) (λ name less.
@@ -92,8 +94,15 @@ start_below words =
     below_bind (omega arith) (name_below start.1) (λ name last. below_some tt name.1 last)))
     (below_bind (omega arith) (next_below words) (λ start less. below_some tt start.1 less))
 
+-- such a clause in the place of paths is left to be read
+wires_below : (profile : Profile) (scope : NetScopeModel) (special : Bool) (words : Words) → Below (suc (length words)) (wires_at profile scope special words)
+unfolding wires_at
+wires_below Narrow scope special words = below_more (omega arith) (paths_below scope special words)
+wires_below (Wide masks soft) scope special words =
+    below_if (special && at_shape_clause words) (below_some [] words (omega arith)) (below_more (omega arith) (paths_below scope special words))
+
 pub wiring_below : (scope : NetScopeModel) (special : Bool) (words : Words) → Below (length words) (wiring_at scope special words)
 unfolding wiring_at
 wiring_below scope special words =
     below_bind (omega arith) (start_below words) (λ start less.
-    below_more (omega arith) (paths_below scope special start.1))
+    below_more (omega arith) (wires_below scope.profile scope special start.1))

@@ -6,6 +6,7 @@
 
 mod by_name;
 mod coordinate;
+mod count;
 mod known_pins;
 mod lone_pins;
 mod net;
@@ -13,8 +14,12 @@ mod net_table;
 mod path;
 mod path_item;
 mod pin_index;
+mod special_rect;
+mod special_shape;
+mod special_via;
 mod terminal;
 mod terminal_index;
+mod via_array;
 mod wiring;
 
 pub use lone_pins::add_lone_pins;

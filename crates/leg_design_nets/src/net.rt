@@ -9,10 +9,11 @@ ghost use Rattle.leg_design_records.specs.declared.limits.TheConstants.{ENTRY_LI
 ghost use Rattle.leg_grammar.specs.Def.Guard.{is_over};
 ghost use Rattle.leg_design_records.specs.Records.{net_names};
 ghost use Rattle.leg_grammar.specs.Def.Terminal.{add_terminal, terminal_form, at_no_terminal};
-ghost use Rattle.leg_grammar.specs.Def.Net.{no_net_parts, is_left_out_of_wiring, is_left_out, use_clause, wiring_clause, from_plus, past_clause, clause_at, net_clause, net_name_at, net_in, net_entry, nets_at};
+ghost use Rattle.leg_grammar.specs.Def.Net.{no_net_parts, is_left_out_of_wiring, is_left_out, use_clause, wiring_clause, shape_clause, from_plus, past_clause, clause_at, net_clause, net_name_at, net_in, net_entry, nets_at};
 
 use crate::known_pins::KnownPins;
 use crate::net_table::{NetTable, NetsBegun};
+use crate::special_shape::shape;
 use crate::terminal::terminals;
 use crate::wiring::{is_wiring, wiring};
 use leg_design_common::{NetScope, section_start};
@@ -99,6 +100,22 @@ impl<'a, A: Allocator + Copy> Parts<'a, A> {
         Ok(())
     }
 
+    /// A clause that would change a shape or a rule, where the profile reads it.
+    #[tactic(auto, unfolding(leg_grammar::specs::Def::Net::shape_clause))]
+    fn shape_clause(
+        &mut self,
+        alloc: A,
+        scope: &NetScope<'_, 'a, A>,
+        special: bool,
+        clause: &mut Cursor<'_, 'a>,
+    ) -> Result<(), ReadFault>
+        ensures { Reads (λ _. self.new) result clause.new (shape_clause scope.now special self.old clause.old) }
+    {
+        let wires = shape(alloc, scope.profile, scope, special, clause)?;
+        self.wires.extend_from_slice(&wires)?;
+        Ok(())
+    }
+
     /// Another clause is read past.
     #[tactic(auto, unfolding(leg_grammar::specs::Def::Net::past_clause))]
     fn past_clause(&self, clause: &mut Cursor<'_, 'a>) -> Result<(), ReadFault>
@@ -124,7 +141,7 @@ impl<'a, A: Allocator + Copy> Parts<'a, A> {
         } else if is_wiring(special, clause) {
             self.wiring_clause(alloc, scope, special, clause)
         } else if is_left_out(special, clause) {
-            Err(clause.fault(FaultKind::Unsupported))
+            self.shape_clause(alloc, scope, special, clause)
         } else {
             self.past_clause(clause)
         }

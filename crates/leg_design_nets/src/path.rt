@@ -1,19 +1,20 @@
 //! The wires that a path denotes (LEF/DEF 5.8, "Regular Wiring Statement", "Special Wiring Statement").
 
-ghost use Rattle.std.specs.Prelude.{◌≡◌, ◌==◌, pos};
+ghost use Rattle.std.specs.Prelude.{◌≡◌, ◌==◌};
 ghost use Rattle.std.specs.List.{list_any};
 ghost use Rattle.leg_lex.specs.Words.{Means};
-ghost use Rattle.leg_geom.specs.Plane.{halfway};
 ghost use Rattle.leg_grammar.specs.Def.Path.{next_spot, is_same_spot, last_given, extension_at, segment_width, segment_to, other_layer, across, path_wires};
 ghost use Rattle.leg_design_records.specs.Wires.{is_straight, default_extension};
-ghost use Rattle.leg_design_nets.specs.Steps.Walk.{behind, wires_with, walked_to, walked_past};
+ghost use Rattle.leg_design_nets.specs.Steps.Walk.{behind, wires_with, walked_to, walked_past_array, walked_past};
 
 use crate::coordinate::coordinate_or;
+use crate::via_array::push_array;
 use leg_design_common::NetScope;
 use leg_design_common::layers::{is_routing, width_of_layer};
+use leg_design_common::number::half;
 use leg_design_records::Wire;
 use leg_geom::{Point, Rect};
-use leg_grammar::{Coordinate, Item};
+use leg_grammar::{Coordinate, Item, ViaArray};
 use leg_lex::{FaultKind, FaultPlace, NameKind, Need, ReadFault};
 use leg_lib_records::{Library, Shape};
 use std::alloc::Allocator;
@@ -83,22 +84,25 @@ fn last_given(before: Option<i64>, given: Option<i64>) -> Option<i64>
 }
 
 /// The extension that is given last before the path leaves the point.
-#[tactic(auto, using(crate::proofs::Paths::extension_ends, crate::proofs::Paths::extension_leaves, crate::proofs::Paths::extension_stays, crate::proofs::Paths::extension_at_via, crate::proofs::Paths::extension_at_rect))]
+#[tactic(auto, using(crate::proofs::Paths::extension_ends, crate::proofs::Paths::extension_leaves, crate::proofs::Paths::extension_stays, crate::proofs::Paths::extension_at_virtual, crate::proofs::Paths::extension_at_via, crate::proofs::Paths::extension_at_array, crate::proofs::Paths::extension_at_rect))]
 fn extension_at(at: Point, given: Option<i64>, items: &[ItemAt<'_>]) -> Option<i64>
     ensures { result ≡ extension_at at given items.now }
 {
     let mut extension = given;
     for next in items {
-        if let Item::ToPoint {
-            x,
-            y,
-            extension: written,
-        } = next.item()
-        {
-            if !is_same_spot(at, next_spot(at, x, y)) {
-                return extension;
+        match next.item() {
+            Item::ToPoint {
+                x,
+                y,
+                extension: written,
+            } => {
+                if !is_same_spot(at, next_spot(at, x, y)) {
+                    return extension;
+                }
+                extension = last_given(extension, written);
             }
-            extension = last_given(extension, written);
+            Item::ToVirtual { .. } => return extension,
+            Item::AtVia(_) | Item::AtArray(..) | Item::AtRect(_) => {}
         }
     }
     extension
@@ -124,13 +128,6 @@ fn segment_width<A: Allocator + Copy>(
         return Err(place.need(FaultKind::EmptyRect, Need::AboveZero));
     }
     Ok(width)
-}
-
-/// Half a width, rounded down.
-pub(crate) fn half(width: i64) -> i64
-    ensures { result ≡ halfway (pos 0) width }
-{
-    width.div_euclid(2)
 }
 
 /// How far a segment reaches past an end whose extension is not written.
@@ -264,6 +261,23 @@ impl<A: Allocator + Copy> Walk<A> {
         Ok(())
     }
 
+    /// Goes on past an array of a via.
+    #[tactic(auto, unfolding(crate::specs::Steps::Walk::walked_past_array))]
+    fn go_past_array(
+        &mut self,
+        scope: &NetScope<'_, '_, A>,
+        via: usize,
+        array: &ViaArray,
+        place: FaultPlace<'_>,
+    ) -> Result<(), ReadFault>
+        ensures { Means (λ _. self.new) result (walked_past_array scope.now via array.now self.old) }
+    {
+        let other = across(scope, via, self.layer, place)?;
+        push_array(via, array, self.at, place, &mut self.wires)?;
+        self.layer = other;
+        Ok(())
+    }
+
     /// Goes on past one more item, after which `later` come.
     #[tactic(auto, unfolding(crate::specs::Steps::Walk::walked_past))]
     fn go_past(
@@ -289,12 +303,19 @@ impl<A: Allocator + Copy> Walk<A> {
                     item.place(),
                 )
             }
+            Item::ToVirtual { x, y } => {
+                let to = next_spot(self.at, x, y);
+                self.extension = extension_at(to, None, later);
+                self.at = to;
+                Ok(())
+            }
             Item::AtVia(via) => {
                 let other = across(scope, via, self.layer, item.place())?;
                 self.wires.push(Wire::ViaAt { via, at: self.at })?;
                 self.layer = other;
                 Ok(())
             }
+            Item::AtArray(via, array) => self.go_past_array(scope, via, &array, item.place()),
             Item::AtRect(rect) => {
                 self.wires.push(Wire::Patch {
                     layer: self.layer,

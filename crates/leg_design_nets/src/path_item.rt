@@ -3,14 +3,17 @@
 ghost use Rattle.std.specs.Prelude.{◌≡◌};
 ghost use Rattle.leg_lex.specs.Words.{Reads, mark_at};
 ghost use Rattle.leg_lex.specs.Until.{until};
-ghost use Rattle.leg_grammar.specs.Def.PathItem.{count_at, coordinate_at, extension_in_point, point_item, first_point_at, rect_item, past_north, via_item, item_at, one_item, at_path_end};
+ghost use Rattle.leg_grammar.specs.Def.PathItem.{coordinate_at, extension_in_point, point_item, first_point_at, rect_item, past_north, via_at, via_item, array_of_via, via_or_array_item, virtual_item, other_item, item_without_mask, item_at, one_item, at_path_end};
 
 use crate::coordinate::{point, read_coordinate};
+use crate::count::count;
 use crate::path::ItemAt;
+use crate::via_array::array;
 use leg_design_common::NetScope;
 use leg_design_common::placement::rect_between;
 use leg_geom::Point;
-use leg_grammar::{Coordinate, Item};
+use leg_grammar::mask::past_mask;
+use leg_grammar::{Coordinate, Item, Profile};
 use leg_lex::{Cursor, FaultKind, NameKind, Need, ReadFault, is_keyword};
 use leg_lib_records::is_wiring_word;
 use std::alloc::Allocator;
@@ -20,19 +23,6 @@ const LEFT_OUT: [&[u8]; 5] = [b"TAPERRULE", b"STYLE", b"MASK", b"VIRTUAL", b"DO"
 
 /// The words of wiring that mean something, but not in an item's place.
 const MISPLACED: [&[u8]; 4] = [b"NEW", b"RECT", b"TAPER", b"N"];
-
-/// A number of at least 0. One below 0 is `TooLarge`.
-#[tactic(auto, unfolding(leg_grammar::specs::Def::PathItem::count_at))]
-pub(crate) fn count(words: &mut Cursor<'_, '_>) -> Result<i64, ReadFault>
-    ensures { Reads (λ z. z) result words.new (count_at words.old) }
-{
-    let first = words.again();
-    let number = words.whole()?;
-    if number < 0 {
-        return Err(first.need(FaultKind::TooLarge, Need::AtLeast(0)));
-    }
-    Ok(number)
-}
 
 /// A coordinate, or `*` for that of the point before.
 #[tactic(auto, unfolding(leg_grammar::specs::Def::PathItem::coordinate_at))]
@@ -142,14 +132,14 @@ fn kind_of_wiring_word(word: &[u8]) -> FaultKind {
     }
 }
 
-/// The name of a via. A name that no via has is `UnknownName`; a word that is left out by name is
+/// The number of a via, by its name. A name that no via has is `UnknownName`; a word that is left out by name is
 /// `Unsupported`, as an orientation is.
-#[tactic(auto, unfolding(leg_grammar::specs::Def::PathItem::via_item))]
-fn via_item<A: Allocator + Copy>(
+#[tactic(auto, unfolding(leg_grammar::specs::Def::PathItem::via_at))]
+pub(crate) fn via<A: Allocator + Copy>(
     scope: &NetScope<'_, '_, A>,
     words: &mut Cursor<'_, '_>,
-) -> Result<Item, ReadFault>
-    ensures { Reads (λ i. i) result words.new (via_item scope.now words.old) }
+) -> Result<usize, ReadFault>
+    ensures { Reads (λ number. number) result words.new (via_at scope.now words.old) }
 {
     let first = words.again();
     let name = words.name()?;
@@ -160,10 +150,101 @@ fn via_item<A: Allocator + Copy>(
         return Err(first.need(FaultKind::UnknownName, Need::Known(NameKind::Via)));
     };
     past_north(words)?;
+    Ok(number)
+}
+
+/// A via.
+#[tactic(auto, unfolding(leg_grammar::specs::Def::PathItem::via_item))]
+fn via_item<A: Allocator + Copy>(
+    scope: &NetScope<'_, '_, A>,
+    words: &mut Cursor<'_, '_>,
+) -> Result<Item, ReadFault>
+    ensures { Reads (λ i. i) result words.new (via_item scope.now words.old) }
+{
+    let number = via(scope, words)?;
     Ok(Item::AtVia(number))
 }
 
-/// An item of a path. Rectangles are in `NETS` only.
+/// The via of this number, or an array of it, if `DO` is next.
+#[tactic(auto, unfolding(leg_grammar::specs::Def::PathItem::array_of_via))]
+fn array_of_via(number: usize, words: &mut Cursor<'_, '_>) -> Result<Item, ReadFault>
+    ensures { Reads (λ i. i) result words.new (array_of_via number words.old) }
+{
+    if words.is_at(b"DO") {
+        let array = array(words)?;
+        return Ok(Item::AtArray(number, array));
+    }
+    Ok(Item::AtVia(number))
+}
+
+/// A via, or an array of one.
+#[tactic(auto, unfolding(leg_grammar::specs::Def::PathItem::via_or_array_item))]
+fn via_or_array_item<A: Allocator + Copy>(
+    scope: &NetScope<'_, '_, A>,
+    words: &mut Cursor<'_, '_>,
+) -> Result<Item, ReadFault>
+    ensures { Reads (λ i. i) result words.new (via_or_array_item scope.now words.old) }
+{
+    let number = via(scope, words)?;
+    array_of_via(number, words)
+}
+
+/// `VIRTUAL ( x y )`.
+#[tactic(auto, unfolding(leg_grammar::specs::Def::PathItem::virtual_item))]
+fn virtual_item(words: &mut Cursor<'_, '_>) -> Result<Item, ReadFault>
+    ensures { Reads (λ i. i) result words.new (virtual_item words.old) }
+{
+    words.keyword(b"VIRTUAL")?;
+    words.mark(b'(')?;
+    let x = coordinate(words)?;
+    let y = coordinate(words)?;
+    words.mark(b')')?;
+    Ok(Item::ToVirtual { x, y })
+}
+
+/// An item that is no point and no rectangle. Arrays of vias are in `SPECIALNETS` only, and virtual points in `NETS`.
+#[tactic(auto, unfolding(leg_grammar::specs::Def::PathItem::other_item))]
+fn other_item<A: Allocator + Copy>(
+    profile: Profile,
+    scope: &NetScope<'_, '_, A>,
+    special: bool,
+    words: &mut Cursor<'_, '_>,
+) -> Result<Item, ReadFault>
+    ensures { Reads (λ i. i) result words.new (other_item profile scope.now special words.old) }
+{
+    match profile {
+        Profile::Narrow => via_item(scope, words),
+        Profile::Wide { .. } => {
+            if special {
+                via_or_array_item(scope, words)
+            } else if words.is_at(b"VIRTUAL") {
+                virtual_item(words)
+            } else {
+                via_item(scope, words)
+            }
+        }
+    }
+}
+
+/// An item of a path without its mask. Rectangles are in `NETS` only.
+#[tactic(auto, unfolding(leg_grammar::specs::Def::PathItem::item_without_mask))]
+fn item_without_mask<A: Allocator + Copy>(
+    scope: &NetScope<'_, '_, A>,
+    special: bool,
+    words: &mut Cursor<'_, '_>,
+) -> Result<Item, ReadFault>
+    ensures { Reads (λ i. i) result words.new (item_without_mask scope.now special words.old) }
+{
+    if words.is_at(b"(") {
+        point_item(words)
+    } else if words.is_at(b"RECT") && !special {
+        rect_item(words)
+    } else {
+        other_item(scope.profile, scope, special, words)
+    }
+}
+
+/// An item of a path, behind its mask.
 #[tactic(auto, unfolding(leg_grammar::specs::Def::PathItem::item_at))]
 fn item<A: Allocator + Copy>(
     scope: &NetScope<'_, '_, A>,
@@ -172,13 +253,8 @@ fn item<A: Allocator + Copy>(
 ) -> Result<Item, ReadFault>
     ensures { Reads (λ i. i) result words.new (item_at scope.now special words.old) }
 {
-    if words.is_at(b"(") {
-        point_item(words)
-    } else if words.is_at(b"RECT") && !special {
-        rect_item(words)
-    } else {
-        via_item(scope, words)
-    }
+    past_mask(scope.profile, words)?;
+    item_without_mask(scope, special, words)
 }
 
 /// One more item.

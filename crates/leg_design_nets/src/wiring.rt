@@ -3,22 +3,24 @@
 ghost use Rattle.std.specs.Prelude.{◌≡◌, ◌&&◌, drop, Some, codes};
 ghost use Rattle.leg_lex.specs.Words.{Reads, Means, is_at};
 ghost use Rattle.leg_lex.specs.Until.{until};
-ghost use Rattle.leg_grammar.specs.Def.Wiring.{routing_at, past_taper, written_width_at, at_no_shape, past_shape, written_at, at_no_new, new_path, paths_at, is_wiring, wiring_start, wiring_at};
+ghost use Rattle.leg_grammar.specs.Def.Wiring.{routing_at, past_taper, written_width_at, at_no_shape, past_shape, written_at, at_no_new, new_path, paths_at, is_wiring, wiring_start, at_shape_clause, wires_at, wiring_at};
 ghost use Rattle.leg_design_nets.specs.Steps.Walk.{path_behind};
-ghost use Rattle.leg_design_records.specs.Wires.{is_even};
 
-use crate::path::{ItemAt, half, path_wires};
-use crate::path_item::{add_items, count, first_point};
+use crate::count::count;
+use crate::path::{ItemAt, path_wires};
+use crate::path_item::{add_items, first_point};
 use leg_design_common::NetScope;
 use leg_design_common::layers::is_routing;
+use leg_design_common::number::is_even;
 use leg_design_records::Wire;
+use leg_grammar::Profile;
 use leg_lex::{Cursor, FaultKind, NameKind, Need, ReadFault};
 use leg_lib_records::Library;
 use std::alloc::Allocator;
 
 /// A routing layer, by its number. A layer that isn't one is `Unexpected`, and an unknown one `UnknownName`.
 #[tactic(auto, unfolding(leg_grammar::specs::Def::Wiring::routing_at))]
-fn routing<A: Allocator + Copy>(
+pub(crate) fn routing<A: Allocator + Copy>(
     library: &Library<'_, A>,
     words: &mut Cursor<'_, '_>,
 ) -> Result<usize, ReadFault>
@@ -44,12 +46,6 @@ fn past_taper(words: &mut Cursor<'_, '_>) -> Result<(), ReadFault>
         words.keyword(b"TAPER")?;
     }
     Ok(())
-}
-
-fn is_even(width: i64) -> bool
-    ensures { result ≡ is_even width }
-{
-    half(width) + half(width) == width
 }
 
 /// The width of a special path. An odd one is `OddWidth`.
@@ -212,6 +208,42 @@ fn wiring_start(clause: &mut Cursor<'_, '_>) -> Result<(), ReadFault>
     Ok(())
 }
 
+/// Whether a clause comes next that gives a rectangle or a via beside paths, or its shape or mask.
+#[tactic(auto, using(leg_lex::proofs::Keywords::read_past, leg_lex::proofs::Keywords::surely_read))]
+fn is_at_shape_clause(words: &Cursor<'_, '_>) -> Result<bool, ReadFault>
+    ensures { Means (λ is. is) result (Some (at_shape_clause words.now)) }
+{
+    if !words.is_at(b"+") {
+        return Ok(false);
+    }
+    let mut next = words.again();
+    next.keyword(b"+")?;
+    Ok(next.is_at(b"RECT") || next.is_at(b"VIA") || next.is_at(b"SHAPE") || next.is_at(b"MASK"))
+}
+
+/// The wires of paths. In `SPECIALNETS` of the wide profile such a clause may stand in their place.
+#[tactic(auto, unfolding(leg_grammar::specs::Def::Wiring::wires_at))]
+fn wires<A: Allocator + Copy>(
+    alloc: A,
+    profile: Profile,
+    scope: &NetScope<'_, '_, A>,
+    special: bool,
+    words: &mut Cursor<'_, '_>,
+) -> Result<Vec<Wire, A>, ReadFault>
+    ensures { Reads (λ v. v.items) result words.new (wires_at profile scope.now special words.old) }
+{
+    match profile {
+        Profile::Narrow => paths(alloc, scope, special, words),
+        Profile::Wide { .. } => {
+            if special && is_at_shape_clause(words)? {
+                Ok(Vec::new(alloc))
+            } else {
+                paths(alloc, scope, special, words)
+            }
+        }
+    }
+}
+
 /// The wires of a clause that contains wiring, from the word after its `+`.
 #[tactic(auto, unfolding(leg_grammar::specs::Def::Wiring::wiring_at))]
 pub(crate) fn wiring<A: Allocator + Copy>(
@@ -223,5 +255,5 @@ pub(crate) fn wiring<A: Allocator + Copy>(
     ensures { Reads (λ v. v.items) result clause.new (wiring_at scope.now special clause.old) }
 {
     wiring_start(clause)?;
-    paths(alloc, scope, special, clause)
+    wires(alloc, scope.profile, scope, special, clause)
 }

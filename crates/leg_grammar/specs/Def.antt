@@ -1,6 +1,7 @@
 -- The forms of a DEF.
 pub mod Guard
 pub mod Clause
+pub mod TrackMask
 pub mod Section
 pub mod Placement
 pub mod Layers
@@ -8,17 +9,28 @@ pub mod NetScope
 pub mod Header
 pub mod Die
 pub mod Row
+pub mod DroppedRow
 pub mod Track
+pub mod GeneratedVia
+pub mod CutPattern
+pub mod CutArray
 pub mod Via
 pub mod Component
 pub mod Port
+pub mod PortVia
 pub mod PinClauses
 pub mod Pin
+pub mod BlockageClause
 pub mod Blockage
 pub mod Terminal
+pub mod Count
+pub mod ViaArray
 pub mod PathItem
 pub mod Path
 pub mod Wiring
+pub mod SpecialRect
+pub mod SpecialVia
+pub mod SpecialShape
 pub mod Net
 pub mod LonePins
 pub mod SkippedForms

@@ -1,5 +1,8 @@
 //! Profiles: which forms of LEF and DEF texts are read (lefdef's own rule).
 
+ghost use Rattle.std.specs.Prelude.{◌≡◌};
+ghost use Rattle.leg_grammar.specs.Profiles.{is_wide};
+
 /// What is made of a mask that a text gives a shape.
 #[derive(Clone, Copy, PartialEq, Eq, Debug)]
 pub enum Masks {
@@ -32,4 +35,16 @@ pub enum Profile {
         /// What is made of soft and partial blockages.
         soft: Soft,
     },
+}
+
+impl Profile {
+    /// Whether forms that are of the wide profile alone are read.
+    pub fn is_wide(self) -> bool
+        ensures { result ≡ is_wide self }
+    {
+        match self {
+            Profile::Narrow => false,
+            Profile::Wide { .. } => true,
+        }
+    }
 }

@@ -8,11 +8,12 @@ use Rattle.leg_lex.proofs.Shorter.{next_below, keyword_below, name_below, end_be
 use Rattle.leg_lex.proofs.Statements.{statement_below}
 use Rattle.leg_lex.proofs.ReadPast.{past_below, past_extension_below}
 use Rattle.leg_lib_records.specs.Records.{RawLibraryModel}
+use Rattle.leg_grammar.specs.declared.profile.Profile.{Profile}
 use Rattle.leg_grammar.specs.Lef.Form.{past_named, past_lef_section, past_statement, past_lef_form, LefParts, library_form_at, lef_form_at, at_last}
 use Rattle.leg_lib.proofs.Layers.{with_layer_below}
 use Rattle.leg_lib.proofs.Vias.{with_via_below}
 use Rattle.leg_lib.proofs.Sites.{with_site_below}
-use Rattle.leg_lib.proofs.MacroForms.{with_macro_below}
+use Rattle.leg_lib.proofs.MacroSkips.{with_macro_below}
 
 past_named_below : (words : Words) → Below (length words) (past_named words)
 unfolding past_named
@@ -42,18 +43,18 @@ past_form_below words =
     (below_if (is_at (codes "BEGINEXT") words) (past_extension_below words)
     (past_statement_below words)))))
 
-library_form_below : (library : RawLibraryModel) (words : Words) → Below (length words) (library_form_at library words)
+library_form_below : (profile : Profile) (library : RawLibraryModel) (words : Words) → Below (length words) (library_form_at profile library words)
 unfolding library_form_at
-library_form_below library words =
+library_form_below profile library words =
     below_if (is_at (codes "LAYER") words) (with_layer_below library words)
-    (below_if (is_at (codes "VIA") words) (with_via_below library words)
+    (below_if (is_at (codes "VIA") words) (with_via_below profile library words)
     (below_if (is_at (codes "SITE") words) (with_site_below library words)
-    (below_if (is_at (codes "MACRO") words) (with_macro_below library words)
+    (below_if (is_at (codes "MACRO") words) (with_macro_below profile library words)
     (below_bind (omega arith) (past_form_below words) (λ form less. below_some library form.1 less)))))
 
 pub form_shortens : Shortens lef_form_at
 unfolding lef_form_at
-form_shortens parts words = below_bind (omega arith) (library_form_below parts.library words) (λ form less. below_some _ form.1 less)
+form_shortens parts words = below_bind (omega arith) (library_form_below parts.profile parts.library words) (λ form less. below_some _ form.1 less)
 
 pub form_shorter : (parts next : LefParts) (words rest : Words) → lef_form_at parts words ≡ Some (next, rest) → length rest < length words
 form_shorter parts next words rest said = (form_shortens parts words).left next rest said

@@ -13,23 +13,26 @@ use Rattle.leg_lex.proofs.Shorter.{keyword_below, name_below, end_below, end_of_
 use Rattle.leg_lex.proofs.Statements.{statement_below}
 use Rattle.leg_lex.proofs.ReadPast.{past_below}
 use Rattle.leg_lib_records.specs.Records.{RawLibraryModel, raw_master_names}
-use Rattle.leg_grammar.specs.Lef.Macro.{MacroParts, no_macro_parts, macro_pin, macro_obstruction, macro_density, macro_timing, macro_statement, macro_part, symmetry_in, macro_said, macro_at, with_macro}
+use Rattle.leg_grammar.specs.declared.profile.Profile.{Profile}
+use Rattle.leg_grammar.specs.Lef.Macro.{MacroParts, no_macro_parts, macro_pin, macro_obstruction, macro_density, macro_timing, macro_statement, macro_part, symmetry_in, macro_said, macro_at, with_master}
 use Rattle.leg_lib.proofs.DrawnShapes.{geometry_below}
 use Rattle.leg_lib.proofs.Pins.{pin_below}
 
-macro_pin_below : (library : RawLibraryModel) (parts : MacroParts) (words : Words) → Below (length words) (macro_pin library parts words)
+macro_pin_below : (profile : Profile) (library : RawLibraryModel) (parts : MacroParts) (words : Words)
+    → Below (length words) (macro_pin profile library parts words)
 unfolding macro_pin
-macro_pin_below library parts words =
-    below_bind (omega arith) (pin_below library words) (λ pin less.
+macro_pin_below profile library parts words =
+    below_bind (omega arith) (pin_below profile library words) (λ pin less.
     below_if (is_none (place_of pin.0.name (map (λ p. p.name) parts.pins)))
     (below_some (record parts { pins = parts.pins ++ pin.0 ∷ [] }) pin.1 less)
     (below_none (length words)))
 
-macro_obstruction_below : (library : RawLibraryModel) (parts : MacroParts) (words : Words) → Below (length words) (macro_obstruction library parts words)
+macro_obstruction_below : (profile : Profile) (library : RawLibraryModel) (parts : MacroParts) (words : Words)
+    → Below (length words) (macro_obstruction profile library parts words)
 unfolding macro_obstruction
-macro_obstruction_below library parts words =
+macro_obstruction_below profile library parts words =
     below_bind (omega arith) (keyword_below (codes "OBS") words) (λ start less.
-    below_bind (omega arith) (geometry_below library start.1) (λ shapes no_more.
+    below_bind (omega arith) (geometry_below profile library start.1) (λ shapes no_more.
     below_bind (omega arith) (keyword_below (codes "END") shapes.1) (λ end last.
     below_some (record parts { obstructions = parts.obstructions ++ shapes.0 }) end.1 last)))
 
@@ -53,42 +56,43 @@ macro_statement_below parts words =
     below_bind (omega arith) (statement_below words) (λ statement less.
     below_some (record parts { statements = parts.statements ++ statement.0 ∷ [] }) statement.1 less)
 
-pub macro_part_shortens : (library : RawLibraryModel) → Shortens (macro_part library)
+pub macro_part_shortens : (profile : Profile) (library : RawLibraryModel) → Shortens (macro_part profile library)
 unfolding macro_part
-macro_part_shortens library parts words =
-    below_if (is_at (codes "PIN") words) (macro_pin_below library parts words)
-    (below_if (is_at (codes "OBS") words) (macro_obstruction_below library parts words)
+macro_part_shortens profile library parts words =
+    below_if (is_at (codes "PIN") words) (macro_pin_below profile library parts words)
+    (below_if (is_at (codes "OBS") words) (macro_obstruction_below profile library parts words)
     (below_if (is_at (codes "DENSITY") words) (macro_density_below parts words)
     (below_if (is_at (codes "TIMING") words) (macro_timing_below parts words)
     (macro_statement_below parts words))))
 
-pub macro_part_shorter : (library : RawLibraryModel) (parts more : MacroParts) (words rest : Words) → macro_part library parts words ≡ Some (more, rest)
+pub macro_part_shorter : (profile : Profile) (library : RawLibraryModel) (parts more : MacroParts) (words rest : Words)
+    → macro_part profile library parts words ≡ Some (more, rest)
     → length rest < length words
-macro_part_shorter library parts more words rest said = (macro_part_shortens library parts words).left more rest said
+macro_part_shorter profile library parts more words rest said = (macro_part_shortens profile library parts words).left more rest said
 
 -- one more part
-pub macro_parts_on : (library : RawLibraryModel) (parts more : MacroParts) (words rest : Words)
-    → macro_part library parts words ≡ Some (more, rest) → is_at (codes "END") words ≡ false
-    → until at_end (macro_part library) parts words ≡ until at_end (macro_part library) more rest
-macro_parts_on library parts more words rest said goes =
-    loops.goes_on at_end (macro_part library) (macro_part_shortens library) parts more words rest goes said
+pub macro_parts_on : (profile : Profile) (library : RawLibraryModel) (parts more : MacroParts) (words rest : Words)
+    → macro_part profile library parts words ≡ Some (more, rest) → is_at (codes "END") words ≡ false
+    → until at_end (macro_part profile library) parts words ≡ until at_end (macro_part profile library) more rest
+macro_parts_on profile library parts more words rest said goes =
+    loops.goes_on at_end (macro_part profile library) (macro_part_shortens profile library) parts more words rest goes said
 
 -- no more parts
-pub macro_parts_end : (library : RawLibraryModel) (parts : MacroParts) (words : Words)
-    → is_at (codes "END") words ≡ true → until at_end (macro_part library) parts words ≡ Some (parts, words)
-macro_parts_end library parts words stops = loops.ends at_end (macro_part library) parts words stops
+pub macro_parts_end : (profile : Profile) (library : RawLibraryModel) (parts : MacroParts) (words : Words)
+    → is_at (codes "END") words ≡ true → until at_end (macro_part profile library) parts words ≡ Some (parts, words)
+macro_parts_end profile library parts words stops = loops.ends at_end (macro_part profile library) parts words stops
 
 -- what stands there is no part
-pub macro_parts_fail : (library : RawLibraryModel) (parts : MacroParts) (words : Words)
-    → macro_part library parts words ≡ None → is_at (codes "END") words ≡ false → until at_end (macro_part library) parts words ≡ None
-macro_parts_fail library parts words said goes = loops.fails at_end (macro_part library) parts words goes said
+pub macro_parts_fail : (profile : Profile) (library : RawLibraryModel) (parts : MacroParts) (words : Words)
+    → macro_part profile library parts words ≡ None → is_at (codes "END") words ≡ false → until at_end (macro_part profile library) parts words ≡ None
+macro_parts_fail profile library parts words said goes = loops.fails at_end (macro_part profile library) parts words goes said
 
-pub macro_below : (library : RawLibraryModel) (words : Words) → Below (length words) (macro_at library words)
+pub macro_below : (profile : Profile) (library : RawLibraryModel) (words : Words) → Below (length words) (macro_at profile library words)
 unfolding macro_at
-macro_below library words =
+macro_below profile library words =
     below_bind (omega arith) (keyword_below (codes "MACRO") words) (λ start less.
     below_bind (omega arith) (name_below start.1) (λ name fewer.
-    below_bind (omega arith) (until_below at_end (macro_part library) (macro_part_shortens library) no_macro_parts name.1) (λ parts no_more.
+    below_bind (omega arith) (until_below at_end (macro_part profile library) (macro_part_shortens profile library) no_macro_parts name.1) (λ parts no_more.
     below_ask (macro_said library parts.0.statements) (λ said.
     below_bind (omega arith) (end_of_below name.0 parts.1) (λ end last.
     below_some (record {
@@ -101,10 +105,10 @@ macro_below library words =
       obstructions = parts.0.obstructions;
     }) end.1 last)))))
 
-pub with_macro_below : (library : RawLibraryModel) (words : Words) → Below (length words) (with_macro library words)
-unfolding with_macro
-with_macro_below library words =
-    below_bind (omega arith) (macro_below library words) (λ master less.
+pub with_master_below : (profile : Profile) (library : RawLibraryModel) (words : Words) → Below (length words) (with_master profile library words)
+unfolding with_master
+with_master_below profile library words =
+    below_bind (omega arith) (macro_below profile library words) (λ master less.
     below_if (is_none (place_of master.0.name (raw_master_names library)))
     (below_some (record library { masters = library.masters ++ master.0 ∷ [] }) master.1 less)
     (below_none (length words)))

@@ -10,6 +10,7 @@ use Rattle.leg_lib_records.specs.declared.raw.RawLayer.{RawLayer}
 use Rattle.leg_lib_records.specs.declared.raw.RawSite.{RawSite}
 use Rattle.leg_lib_records.specs.Measure.{HasArea}
 use Rattle.leg_lib_records.specs.Records.{RawLibraryModel, RawViaModel, RawMasterModel}
+use Rattle.leg_grammar.specs.declared.profile.Profile.{Profile}
 use Rattle.leg_grammar.specs.Lef.Layer.{kind_in, spacing_of, layer_at}
 use Rattle.leg_grammar.specs.Lef.Point.{size_in}
 use Rattle.leg_grammar.specs.Lef.Site.{site_at}
@@ -68,29 +69,31 @@ site_is_named words rest site said = ((site_gives words).given (site, rest) said
 pub site_has_area : (words rest : Words) (site : RawSite) → site_at words ≡ Some (site, rest) → HasArea site.size
 site_has_area words rest site said = ((site_gives words).given (site, rest) said).0
 
-via_gives : (library : RawLibraryModel) (words : Words) → Gives (λ said. IsTrue (is_name said.0.name)) (via_at library words)
+via_gives : (profile : Profile) (library : RawLibraryModel) (words : Words) → Gives (λ said. IsTrue (is_name said.0.name)) (via_at profile library words)
 unfolding via_at
-via_gives library words =
+via_gives profile library words =
     gives_skip (keyword_at (codes "VIA") words) (λ start.
     gives_bind (name_gives start.1) (λ name named.
     gives_skip (statements_at (flags_at name.1).1) (λ body.
-    gives_skip (over (via_part library) no_via_parts body.0) (λ parts.
+    gives_skip (over (via_part profile library) no_via_parts body.0) (λ parts.
     gives_skip (end_of name.0 body.1) (λ end.
     gives_some _ named)))))
 
-pub via_is_named : (library : RawLibraryModel) (words rest : Words) (via : RawViaModel) → via_at library words ≡ Some (via, rest) → IsTrue (is_name via.name)
-via_is_named library words rest via said = (via_gives library words).given (via, rest) said
+pub via_is_named : (profile : Profile) (library : RawLibraryModel) (words rest : Words) (via : RawViaModel) → via_at profile library words ≡ Some (via, rest)
+    → IsTrue (is_name via.name)
+via_is_named profile library words rest via said = (via_gives profile library words).given (via, rest) said
 
-macro_gives : (library : RawLibraryModel) (words : Words) → Gives (λ said. IsTrue (is_name said.0.name)) (macro_at library words)
+macro_gives : (profile : Profile) (library : RawLibraryModel) (words : Words) → Gives (λ said. IsTrue (is_name said.0.name)) (macro_at profile library words)
 unfolding macro_at
-macro_gives library words =
+macro_gives profile library words =
     gives_skip (keyword_at (codes "MACRO") words) (λ start.
     gives_bind (name_gives start.1) (λ name named.
-    gives_skip (until at_end (macro_part library) no_macro_parts name.1) (λ parts.
+    gives_skip (until at_end (macro_part profile library) no_macro_parts name.1) (λ parts.
     gives_skip (macro_said library parts.0.statements) (λ said.
     gives_skip (end_of name.0 parts.1) (λ end.
     gives_some _ named)))))
 
-pub macro_is_named : (library : RawLibraryModel) (words rest : Words) (master : RawMasterModel) → macro_at library words ≡ Some (master, rest)
+pub macro_is_named : (profile : Profile) (library : RawLibraryModel) (words rest : Words) (master : RawMasterModel)
+    → macro_at profile library words ≡ Some (master, rest)
     → IsTrue (is_name master.name)
-macro_is_named library words rest master said = (macro_gives library words).given (master, rest) said
+macro_is_named profile library words rest master said = (macro_gives profile library words).given (master, rest) said

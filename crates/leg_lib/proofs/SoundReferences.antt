@@ -1,6 +1,6 @@
 -- What a via or a macro that is read refers to is there: its layers, its site, and names of pins that are apart.
-use Rattle.std.proofs.Common.{◌≡◌, ℕ, ◌<◌, Bool, true, false, not, ◌&&◌, ◌||◌, List, length, map, All, IfSome, Option, None, Some, is_none, IsTrue, refl, sym, codes}
-use Rattle.std.proofs.lemmas.List.Elements.{All-nil, All-push, All-append}
+use Rattle.std.proofs.Common.{◌≡◌, ℕ, ◌<◌, Bool, true, false, not, ◌&&◌, ◌||◌, List, [], ◌∷◌, length, map, All, IfSome, Option, None, Some, is_none, IsTrue, refl, sym, codes}
+use Rattle.std.proofs.lemmas.List.Elements.{All-nil, All-cons, All-push, All-append}
 use Rattle.leg_lex.specs.Words.{Words, is_name, is_at, keyword_at, name_at, end_at, end_of, nothing_at}
 use Rattle.leg_lex.specs.Until.{over}
 use Rattle.leg_lex.specs.Past.{past}
@@ -8,6 +8,7 @@ use Rattle.leg_lex.specs.Statements.{statement_at, statements_at, only, the, at_
 use Rattle.leg_lex.specs.NameLookup.{place_of}
 use Rattle.leg_lex.proofs.Gives.{Gives, gives_none, gives_some, gives_bind, gives_skip, gives_choice, gives_if}
 use Rattle.leg_lex.proofs.GivesAll.{until_gives, over_gives, named_gives_within}
+use Rattle.leg_geom.specs.Plane.{RectModel}
 use Rattle.leg_lib_records.specs.declared.raw.RawLayer.{RawLayer}
 use Rattle.leg_lib_records.specs.declared.raw.RawSite.{RawSite}
 use Rattle.leg_lib_records.specs.declared.raw.RawShape.{RawShape}
@@ -17,8 +18,10 @@ use Rattle.leg_lib_records.specs.GoodVia.{raw_uses, raw_parts, is_raw_good_via}
 use Rattle.leg_lib_records.specs.LibraryNames.{AreNames}
 use Rattle.leg_lib_records.specs.References.{AreRawShapesOn, IsRawViaOf, IsRawMasterOf}
 use Rattle.leg_lib_records.proofs.LibraryNames.{no_names, names_push}
-use Rattle.leg_grammar.specs.Lef.Geometry.{Drawn, nothing_drawn, draws_metal, layer_of_geometry, drawn_rect, is_off_metal, is_other_shape, geometry_part, geometry_at}
+use Rattle.leg_grammar.specs.declared.profile.Profile.{Profile}
+use Rattle.leg_grammar.specs.Lef.Geometry.{Drawn, nothing_drawn, draws_metal, layer_of_geometry, drawn_rect, shapes_on, drawn_polygon, is_off_metal, is_other_shape, geometry_part, geometry_at}
 use Rattle.leg_grammar.specs.Lef.Point.{rect_in, size_in}
+use Rattle.leg_grammar.specs.Lef.Polygon.{is_read_polygon, polygon_in}
 use Rattle.leg_grammar.specs.Lef.Via.{flags_at, ViaParts, no_via_parts, layer_of_via, spoils, via_part, is_good, kept, via_at}
 use Rattle.leg_grammar.specs.Lef.Pin.{PinParts, no_pin_parts, port_at, pin_part, supply_of_any, pin_at}
 use Rattle.leg_grammar.specs.declared.macro_statements.MacroStatements.{MacroStatements}
@@ -33,7 +36,14 @@ record IsDrawnOn (layers : ℕ) (drawn : Drawn) : Type 0 where
 nothing_on : (layers : ℕ) → IsDrawnOn layers nothing_drawn
 nothing_on layers = record { on = tt; shapes = All-nil (λ (shape : RawShape). shape.layer < layers) }
 
-module _ (library : RawLibraryModel) where
+-- the shapes of rectangles are on their layer
+shapes_on_layer : (layers number : ℕ) (rects : List RectModel) → number < layers → AreRawShapesOn layers (shapes_on number rects)
+shapes_on_layer layers number [] within = All-nil (λ (shape : RawShape). shape.layer < layers)
+shapes_on_layer layers number (rect ∷ rects) within =
+    All-cons (λ (shape : RawShape). shape.layer < layers) (record { layer = number; rect = rect }) (shapes_on number rects) within
+    (shapes_on_layer layers number rects within)
+
+module _ (profile : Profile) (library : RawLibraryModel) where
   abbrev count : ℕ
   count = length library.layers
 
@@ -41,12 +51,12 @@ module _ (library : RawLibraryModel) where
   on_gives None within = gives_none
   on_gives (Some k) within = gives_some k within
 
-  rect_gives : (drawn : Drawn) (statement : Words) → IsDrawnOn count drawn → Gives (IsDrawnOn count) (drawn_rect library drawn statement)
+  rect_gives : (drawn : Drawn) (statement : Words) → IsDrawnOn count drawn → Gives (IsDrawnOn count) (drawn_rect profile library drawn statement)
   unfolding drawn_rect
   rect_gives drawn statement is =
       gives_bind (on_gives drawn.on is.on) (λ number within.
       gives_if (draws_metal library.layers number)
-      (gives_skip (rect_in statement) (λ rect.
+      (gives_skip (rect_in profile statement) (λ rect.
       gives_some _ (record {
         on = is.on;
         shapes = All-push (λ shape. shape.layer < count) drawn.shapes
@@ -54,7 +64,20 @@ module _ (library : RawLibraryModel) where
       })))
       (gives_some drawn is))
 
-  geometry_layer_gives : (statement : Words) → Gives (λ k. k < count) (layer_of_geometry library statement)
+  polygon_gives : (drawn : Drawn) (statement : Words) → IsDrawnOn count drawn → Gives (IsDrawnOn count) (drawn_polygon profile library drawn statement)
+  unfolding drawn_polygon
+  polygon_gives drawn statement is =
+      gives_bind (on_gives drawn.on is.on) (λ number within.
+      gives_if (draws_metal library.layers number)
+      (gives_skip (polygon_in profile statement) (λ slabs.
+      gives_some _ (record {
+        on = is.on;
+        shapes = All-append (λ shape. shape.layer < count) drawn.shapes (shapes_on number slabs) is.shapes
+            (shapes_on_layer count number slabs within);
+      })))
+      (gives_some drawn is))
+
+  geometry_layer_gives : (statement : Words) → Gives (λ k. k < count) (layer_of_geometry profile library statement)
   unfolding layer_of_geometry
   geometry_layer_gives statement =
       gives_skip (keyword_at (codes "LAYER") statement) (λ start.
@@ -62,20 +85,21 @@ module _ (library : RawLibraryModel) where
       gives_bind (named_gives_within (λ (l : RawLayer). l.name) name.0 library.layers) (λ number within.
       gives_if _ (gives_some number within) gives_none)))
 
-  part_gives : (drawn : Drawn) (statement : Words) → IsDrawnOn count drawn → Gives (IsDrawnOn count) (geometry_part library drawn statement)
+  part_gives : (drawn : Drawn) (statement : Words) → IsDrawnOn count drawn → Gives (IsDrawnOn count) (geometry_part profile library drawn statement)
   unfolding geometry_part
   part_gives drawn statement is =
       gives_if (is_at (codes "LAYER") statement)
       (gives_bind (geometry_layer_gives statement) (λ number within. gives_some _ (record { on = within; shapes = is.shapes })))
       (gives_if (is_at (codes "RECT") statement) (rect_gives drawn statement is)
       (gives_if (is_at (codes "WIDTH") statement || is_at (codes "CLASS") statement) (gives_some drawn is)
-      (gives_if (is_other_shape statement && is_off_metal library drawn.on) (gives_some drawn is) gives_none)))
+      (gives_if (is_read_polygon profile statement) (polygon_gives drawn statement is)
+      (gives_if (is_other_shape statement && is_off_metal library drawn.on) (gives_some drawn is) gives_none))))
 
-  geometry_gives : (words : Words) → Gives (λ said. AreRawShapesOn count said.0) (geometry_at library words)
+  geometry_gives : (words : Words) → Gives (λ said. AreRawShapesOn count said.0) (geometry_at profile library words)
   unfolding geometry_at
   geometry_gives words =
       gives_skip (statements_at words) (λ body.
-      gives_bind (over_gives (IsDrawnOn count) (geometry_part library) part_gives nothing_drawn body.0 (nothing_on count)) (λ drawn is.
+      gives_bind (over_gives (IsDrawnOn count) (geometry_part profile library) part_gives nothing_drawn body.0 (nothing_on count)) (λ drawn is.
       gives_some _ is.shapes))
 
   -- vias
@@ -88,18 +112,19 @@ module _ (library : RawLibraryModel) where
       named_gives_within (λ (l : RawLayer). l.name) name.0 library.layers)))
 
   via_part_gives : (parts : ViaParts) (statement : Words) → IsDrawnOn count parts.drawn
-      → Gives (λ next. IsDrawnOn count next.drawn) (via_part library parts statement)
+      → Gives (λ next. IsDrawnOn count next.drawn) (via_part profile library parts statement)
   unfolding via_part
   via_part_gives parts statement is =
-      gives_if (spoils statement) (gives_some _ is)
+      gives_if (spoils profile statement) (gives_some _ is)
       (gives_if (is_at (codes "LAYER") statement)
       (gives_bind (via_layer_gives statement) (λ number within. gives_some _ (record { on = within; shapes = is.shapes })))
       (gives_if (is_at (codes "RECT") statement)
       (gives_bind (rect_gives parts.drawn statement is) (λ drawn held. gives_some _ held))
       (gives_some parts is)))
 
-  all_via_parts : (statements : List Words) → Gives (λ parts. IsDrawnOn count parts.drawn) (over (via_part library) no_via_parts statements)
-  all_via_parts statements = over_gives (λ parts. IsDrawnOn count parts.drawn) (via_part library) via_part_gives no_via_parts statements (nothing_on count)
+  all_via_parts : (statements : List Words) → Gives (λ parts. IsDrawnOn count parts.drawn) (over (via_part profile library) no_via_parts statements)
+  all_via_parts statements =
+      over_gives (λ parts. IsDrawnOn count parts.drawn) (via_part profile library) via_part_gives no_via_parts statements (nothing_on count)
 
   kept_on : (good : Bool) (shapes : List RawShape) → AreRawShapesOn count shapes → AreRawShapesOn count (kept good shapes)
   kept_on true shapes on = on
@@ -118,7 +143,7 @@ module _ (library : RawLibraryModel) where
     by false false true is = sym is
     by false false false is = refl
 
-  via_gives : (words : Words) → Gives (λ said. IsRawViaOf library.layers said.0) (via_at library words)
+  via_gives : (words : Words) → Gives (λ said. IsRawViaOf library.layers said.0) (via_at profile library words)
   unfolding via_at
   via_gives words =
       gives_skip (keyword_at (codes "VIA") words) (λ start.
@@ -132,12 +157,12 @@ module _ (library : RawLibraryModel) where
       }))))))
 
   -- A via that is read has layers of the library, and is good just where it is marked so.
-  pub via_refers : (words rest : Words) (via : RawViaModel) → via_at library words ≡ Some (via, rest) → IsRawViaOf library.layers via
+  pub via_refers : (words rest : Words) (via : RawViaModel) → via_at profile library words ≡ Some (via, rest) → IsRawViaOf library.layers via
   via_refers words rest via said = (via_gives words).given (via, rest) said
 
   -- pins
   pin_part_gives : (parts : PinParts) (words : Words) → AreRawShapesOn count parts.shapes
-      → Gives (λ said. AreRawShapesOn count said.0.shapes) (pin_part library parts words)
+      → Gives (λ said. AreRawShapesOn count said.0.shapes) (pin_part profile library parts words)
   unfolding pin_part port_at
   pin_part_gives parts words on =
       gives_if (is_at (codes "PORT") words)
@@ -148,12 +173,12 @@ module _ (library : RawLibraryModel) where
       gives_some _ (All-append (λ shape. shape.layer < count) parts.shapes port.0 on is)))
       (gives_skip (statement_at words) (λ statement. gives_some _ on))
 
-  pin_gives : (words : Words) → Gives (λ said. IsTrue (is_name said.0.name) × AreRawShapesOn count said.0.shapes) (pin_at library words)
+  pin_gives : (words : Words) → Gives (λ said. IsTrue (is_name said.0.name) × AreRawShapesOn count said.0.shapes) (pin_at profile library words)
   unfolding pin_at
   pin_gives words =
       gives_skip (keyword_at (codes "PIN") words) (λ start.
       gives_bind (name_gives start.1) (λ name named.
-      gives_bind (until_gives (λ parts. AreRawShapesOn count parts.shapes) at_end (pin_part library) pin_part_gives no_pin_parts name.1
+      gives_bind (until_gives (λ parts. AreRawShapesOn count parts.shapes) at_end (pin_part profile library) pin_part_gives no_pin_parts name.1
       (All-nil (λ (shape : RawShape). shape.layer < count))) (λ parts is.
       gives_skip (only (codes "USE") parts.0.statements) (λ found.
       gives_skip (supply_of_any found) (λ supply.
@@ -177,7 +202,7 @@ module _ (library : RawLibraryModel) where
   none_there None is = refl
   none_there (Some k) is = absurd (let e : ⊥ = cc in e)
 
-  macro_pin_gives : (parts : MacroParts) (words : Words) → ArePartsOn parts → Gives (λ said. ArePartsOn said.0) (macro_pin library parts words)
+  macro_pin_gives : (parts : MacroParts) (words : Words) → ArePartsOn parts → Gives (λ said. ArePartsOn said.0) (macro_pin profile library parts words)
   unfolding macro_pin
   macro_pin_gives parts words on =
       gives_bind (pin_gives words) (λ pin is.
@@ -188,7 +213,8 @@ module _ (library : RawLibraryModel) where
         obstructions = on.obstructions;
       })) (λ other. gives_none))
 
-  macro_obstruction_gives : (parts : MacroParts) (words : Words) → ArePartsOn parts → Gives (λ said. ArePartsOn said.0) (macro_obstruction library parts words)
+  macro_obstruction_gives : (parts : MacroParts) (words : Words) → ArePartsOn parts
+      → Gives (λ said. ArePartsOn said.0) (macro_obstruction profile library parts words)
   unfolding macro_obstruction
   macro_obstruction_gives parts words on =
       gives_skip (keyword_at (codes "OBS") words) (λ start.
@@ -200,7 +226,7 @@ module _ (library : RawLibraryModel) where
         obstructions = All-append (λ shape. shape.layer < count) parts.obstructions shapes.0 on.obstructions is;
       }))))
 
-  macro_part_gives : (parts : MacroParts) (words : Words) → ArePartsOn parts → Gives (λ said. ArePartsOn said.0) (macro_part library parts words)
+  macro_part_gives : (parts : MacroParts) (words : Words) → ArePartsOn parts → Gives (λ said. ArePartsOn said.0) (macro_part profile library parts words)
   unfolding macro_part macro_density macro_timing macro_statement
   macro_part_gives parts words on =
       gives_if (is_at (codes "PIN") words) (macro_pin_gives parts words on)
@@ -234,17 +260,17 @@ module _ (library : RawLibraryModel) where
       gives_bind (site_gives of_site) (λ site within.
       gives_some _ within))))))))
 
-  macro_gives : (words : Words) → Gives (λ said. IsRawMasterOf library.layers library.sites said.0) (macro_at library words)
+  macro_gives : (words : Words) → Gives (λ said. IsRawMasterOf library.layers library.sites said.0) (macro_at profile library words)
   unfolding macro_at
   macro_gives words =
       gives_skip (keyword_at (codes "MACRO") words) (λ start.
       gives_skip (name_at start.1) (λ name.
-      gives_bind (until_gives ArePartsOn at_end (macro_part library) macro_part_gives no_macro_parts name.1 no_parts_on) (λ parts on.
+      gives_bind (until_gives ArePartsOn at_end (macro_part profile library) macro_part_gives no_macro_parts name.1 no_parts_on) (λ parts on.
       gives_bind (said_gives parts.0.statements) (λ said within.
       gives_skip (end_of name.0 parts.1) (λ end.
       gives_some _ (record { site = within; pin_names = on.names; pins = on.pins; obstructions = on.obstructions }))))))
 
   -- A macro that is read has a site and layers of the library, and no two of its pins have one name.
-  pub macro_refers : (words rest : Words) (master : RawMasterModel) → macro_at library words ≡ Some (master, rest)
+  pub macro_refers : (words rest : Words) (master : RawMasterModel) → macro_at profile library words ≡ Some (master, rest)
       → IsRawMasterOf library.layers library.sites master
   macro_refers words rest master said = (macro_gives words).given (master, rest) said

@@ -8,6 +8,7 @@ use Rattle.leg_lex.proofs.EachElement.{over_ends, over_goes_on, over_fails}
 use Rattle.leg_lex.proofs.Shorter.{keyword_below, name_below, end_of_below}
 use Rattle.leg_lex.proofs.Statements.{statements_below}
 use Rattle.leg_lib_records.specs.Records.{RawLibraryModel, raw_via_names}
+use Rattle.leg_grammar.specs.declared.profile.Profile.{Profile}
 use Rattle.leg_grammar.specs.Lef.Via.{Flags, no_flags, flag_at, flags_at, ViaParts, no_via_parts, via_part, is_good, kept, via_at, with_via}
 
 -- where the last step says nothing, neither do the steps before it
@@ -41,14 +42,14 @@ flags_no_longer words =
     let c = flag_no_longer second.0 second.1 in
     omega arith
 
-pub via_below : (library : RawLibraryModel) (words : Words) → Below (length words) (via_at library words)
+pub via_below : (profile : Profile) (library : RawLibraryModel) (words : Words) → Below (length words) (via_at profile library words)
 unfolding via_at
-via_below library words =
+via_below profile library words =
     below_bind (omega arith) (keyword_below (codes "VIA") words) (λ start less.
     below_bind (omega arith) (name_below start.1) (λ name fewer.
     let no_more = flags_no_longer name.1 in
     below_bind (omega arith) (statements_below (flags_at name.1).1) (λ body shorter.
-    below_ask (over (via_part library) no_via_parts body.0) (λ parts.
+    below_ask (over (via_part profile library) no_via_parts body.0) (λ parts.
     below_bind (omega arith) (end_of_below name.0 body.1) (λ end last.
     below_some (record {
       name = name.0;
@@ -57,26 +58,26 @@ via_below library words =
       shapes = kept (is_good library name.0 parts) parts.drawn.shapes;
     }) end.1 last)))))
 
-pub with_via_below : (library : RawLibraryModel) (words : Words) → Below (length words) (with_via library words)
+pub with_via_below : (profile : Profile) (library : RawLibraryModel) (words : Words) → Below (length words) (with_via profile library words)
 unfolding with_via
-with_via_below library words =
-    below_bind (omega arith) (via_below library words) (λ via less.
+with_via_below profile library words =
+    below_bind (omega arith) (via_below profile library words) (λ via less.
     below_if (is_none (place_of via.0.name (raw_via_names library)))
     (below_some (record library { vias = library.vias ++ via.0 ∷ [] }) via.1 less)
     (below_none (length words)))
 
 -- the loop over a via's statements
-pub parts_on : (library : RawLibraryModel) (before next : ViaParts) (statements : List Words) (i : ℕ) (x : Words) → i < length statements
-    → x ≡ get_or statements i x → via_part library before x ≡ Some next
-    → over (via_part library) before (drop i statements) ≡ over (via_part library) next (drop (i + 1) statements)
-parts_on library before next statements i x less is said =
-    over_goes_on (via_part library) before next statements i x less is said
+pub parts_on : (profile : Profile) (library : RawLibraryModel) (before next : ViaParts) (statements : List Words) (i : ℕ) (x : Words) → i < length statements
+    → x ≡ get_or statements i x → via_part profile library before x ≡ Some next
+    → over (via_part profile library) before (drop i statements) ≡ over (via_part profile library) next (drop (i + 1) statements)
+parts_on profile library before next statements i x less is said =
+    over_goes_on (via_part profile library) before next statements i x less is said
 
-pub parts_fail : (library : RawLibraryModel) (before : ViaParts) (statements : List Words) (i : ℕ) (x : Words) → i < length statements
-    → x ≡ get_or statements i x → via_part library before x ≡ None → over (via_part library) before (drop i statements) ≡ None
-parts_fail library before statements i x less is said =
-    over_fails (via_part library) before statements i x less is said
+pub parts_fail : (profile : Profile) (library : RawLibraryModel) (before : ViaParts) (statements : List Words) (i : ℕ) (x : Words) → i < length statements
+    → x ≡ get_or statements i x → via_part profile library before x ≡ None → over (via_part profile library) before (drop i statements) ≡ None
+parts_fail profile library before statements i x less is said =
+    over_fails (via_part profile library) before statements i x less is said
 
-pub parts_end : (library : RawLibraryModel) (before : ViaParts) (statements : List Words) (i : ℕ) → length statements ≤ i
-    → over (via_part library) before (drop i statements) ≡ Some before
-parts_end library before statements i past = over_ends (via_part library) before statements i past
+pub parts_end : (profile : Profile) (library : RawLibraryModel) (before : ViaParts) (statements : List Words) (i : ℕ) → length statements ≤ i
+    → over (via_part profile library) before (drop i statements) ≡ Some before
+parts_end profile library before statements i past = over_ends (via_part profile library) before statements i past

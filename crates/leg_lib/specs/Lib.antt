@@ -5,3 +5,4 @@ pub use Rattle.leg_lib_records.specs.JoinLaw
 pub use Rattle.leg_lib_records.specs.GoodVia
 pub use Rattle.leg_lib_records.specs.Scale
 pub use Rattle.leg_lib_records.specs.Sound
+pub mod Steps

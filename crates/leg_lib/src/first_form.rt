@@ -47,9 +47,9 @@ fn line_of_form<'a, A: Allocator + Copy>(
 }
 
 /// The line in which the first pin of this name begins in the macro that comes next, if one does.
-#[tactic(auto, using(crate::proofs::MacroForms::macro_part_shorter))]
 fn line_of_pin<'a, A: Allocator + Copy>(
     alloc: A,
+    profile: Profile,
     library: &RawLibrary<'a, A>,
     words: &mut Cursor<'_, 'a>,
     name: &[u8],
@@ -59,7 +59,9 @@ fn line_of_pin<'a, A: Allocator + Copy>(
     let mut parts = MacroParts::new(alloc);
     'parts: while !words.is_at(b"END") {
         let line = line_of(words);
-        parts.macro_part(alloc, library, words).ok()?;
+        let Ok(()) = parts.macro_part(alloc, profile, library, words) else {
+            return None;
+        };
         if parts.pin_names.place_of(name).is_some() {
             return Some(line);
         }
@@ -78,7 +80,7 @@ fn line_of_pin_at_fault<'a, A: Allocator + Copy>(
     'forms: while !words.is_at_end() && !words.is_at(b"END") {
         let mut next = words.again();
         if form(alloc, parts, words).is_err() {
-            return line_of_pin(alloc, &parts.library, &mut next, name);
+            return line_of_pin(alloc, parts.profile, &parts.library, &mut next, name);
         }
     }
     None

@@ -6,7 +6,7 @@ ghost use Rattle.leg_lex.specs.Words.{Reads, Means};
 ghost use Rattle.leg_grammar.specs.Lef.Form.{no_lef_parts, library_form_at, lef_form_at, at_last, ended, lef_in};
 
 use crate::layer::layer_form;
-use crate::macros::macro_form;
+use crate::macro_skip::macro_form;
 use crate::site::site_form;
 use crate::skipped::past_form;
 use crate::via::via_form;
@@ -19,7 +19,7 @@ use std::marker::Model;
 /// What the forms before gave, and the profile in which they are read.
 #[derive(Drop)]
 pub(crate) struct Parts<'a, A: Allocator + Copy> {
-    profile: Profile,
+    pub(crate) profile: Profile,
     pub(crate) library: RawLibrary<'a, A>,
 }
 
@@ -47,19 +47,20 @@ impl<'a, A: Allocator + Copy> Parts<'a, A> {
 #[tactic(auto, unfolding(leg_grammar::specs::Lef::Form::library_form_at))]
 fn library_form<'a, A: Allocator + Copy>(
     alloc: A,
+    profile: Profile,
     library: &mut RawLibrary<'a, A>,
     words: &mut Cursor<'_, 'a>,
 ) -> Result<(), ReadFault>
-    ensures { Reads (λ _. library.new) result words.new (library_form_at library.old words.old) }
+    ensures { Reads (λ _. library.new) result words.new (library_form_at profile library.old words.old) }
 {
     if words.is_at(b"LAYER") {
         layer_form(alloc, library, words)
     } else if words.is_at(b"VIA") {
-        via_form(alloc, library, words)
+        via_form(alloc, profile, library, words)
     } else if words.is_at(b"SITE") {
         site_form(alloc, library, words)
     } else if words.is_at(b"MACRO") {
-        macro_form(alloc, library, words)
+        macro_form(alloc, profile, library, words)
     } else {
         past_form(words)
     }
@@ -74,7 +75,7 @@ pub(crate) fn form<'a, A: Allocator + Copy>(
 ) -> Result<(), ReadFault>
     ensures { Reads (λ _. parts.new) result words.new (lef_form_at parts.old words.old) }
 {
-    library_form(alloc, &mut parts.library, words)
+    library_form(alloc, parts.profile, &mut parts.library, words)
 }
 
 /// The forms of a text, up to its end or to an `END` in a form's place.

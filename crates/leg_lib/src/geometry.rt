@@ -1,16 +1,19 @@
 //! The shapes of ports and of obstructions (LEF/DEF 5.8, "Layer Geometries").
 
-ghost use Rattle.std.specs.Prelude.{◌≡◌, ◌≢◌, true, false, OnOk, IfErr};
+ghost use Rattle.std.specs.Prelude.{◌≡◌, ◌≢◌, ◌&&◌, ◌++◌, codes, true, false, OnOk, IfErr};
 ghost use Rattle.std.specs.List.{list_all};
 ghost use Rattle.leg_lex.specs.declared.read_fault.FaultKind.TheVariants.{Memory};
-ghost use Rattle.leg_lex.specs.Words.{Reads, Means};
+ghost use Rattle.leg_lex.specs.Words.{Reads, Means, is_at};
 ghost use Rattle.leg_lex.specs.Until.{over};
-ghost use Rattle.leg_grammar.specs.Lef.Geometry.{draws_metal, is_off_metal, is_other_shape, says_nothing, layer_of_geometry, nothing_drawn, drawn_rect, geometry_part, geometry_at};
+ghost use Rattle.leg_grammar.specs.Lef.Geometry.{draws_metal, is_off_metal, is_other_shape, refuses_exceptions, says_nothing, layer_of_geometry, nothing_drawn, drawn_rect, shapes_on, drawn_polygon, geometry_part, geometry_at};
 
 use crate::point::rect;
+use crate::polygon::{is_read_polygon, polygon};
+use leg_grammar::Profile;
+use leg_grammar::mask::past_mask;
 use leg_lex::{Cursor, FaultKind, Keyword, NameKind, Need, ReadFault};
-use leg_lib_records::{RawKind, RawLayer, RawLibrary, RawShape};
-use std::alloc::Allocator;
+use leg_lib_records::{RawKind, RawLayer, RawLibrary, RawRect, RawShape};
+use std::alloc::{AllocError, Allocator};
 use std::marker::Model;
 
 /// Whether the layer of this number has metal.
@@ -23,15 +26,32 @@ fn has_metal(layers: &[RawLayer<'_>], number: usize) -> bool
     }
 }
 
-/// Checks that the words after a layer's name have no effect. `EXCEPTPGNET` is `Unsupported`; what is no
-/// name and not quoted is `Unexpected`.
+/// Whether `EXCEPTPGNET` is refused.
+fn refuses_exceptions(profile: Profile) -> bool
+    ensures { result ≡ refuses_exceptions profile }
+{
+    match profile {
+        Profile::Narrow => true,
+        Profile::Wide { .. } => false,
+    }
+}
+
+/// Whether the next word is an `EXCEPTPGNET` that is refused.
+fn is_at_refused_exception(profile: Profile, words: &Cursor<'_, '_>) -> bool
+    ensures { result ≡ (refuses_exceptions profile && is_at (codes "EXCEPTPGNET") words.now) }
+{
+    refuses_exceptions(profile) && words.is_at(b"EXCEPTPGNET")
+}
+
+/// Checks that the words after a layer's name have no effect. In the narrow profile `EXCEPTPGNET` is `Unsupported`; what is
+/// no name and not quoted is `Unexpected`.
 #[tactic(auto, using(crate::proofs::DrawnShapes::other_said, crate::proofs::DrawnShapes::exception_said, crate::proofs::DrawnShapes::all_said_nothing, crate::proofs::DrawnShapes::word_shorter))]
-fn nothing_said(words: &mut Cursor<'_, '_>) -> Result<(), ReadFault>
-    ensures nothing { OnOk result (list_all says_nothing words.old ≡ true) }
-    ensures something { IfErr result (λ fault. fault.kind ≢ Memory → list_all says_nothing words.old ≡ false) }
+fn nothing_said(profile: Profile, words: &mut Cursor<'_, '_>) -> Result<(), ReadFault>
+    ensures nothing { OnOk result (list_all (says_nothing profile) words.old ≡ true) }
+    ensures something { IfErr result (λ fault. fault.kind ≢ Memory → list_all (says_nothing profile) words.old ≡ false) }
 {
     'words: while !words.is_at_end() {
-        if words.is_at(b"EXCEPTPGNET") {
+        if is_at_refused_exception(profile, words) {
             return Err(words.fault(FaultKind::Unsupported));
         }
         words.word()?;
@@ -42,10 +62,11 @@ fn nothing_said(words: &mut Cursor<'_, '_>) -> Result<(), ReadFault>
 /// The number of the layer that a `LAYER` statement names.
 #[tactic(auto, unfolding(leg_grammar::specs::Lef::Geometry::layer_of_geometry))]
 fn layer_of_geometry<A: Allocator + Copy>(
+    profile: Profile,
     library: &RawLibrary<'_, A>,
     statement: &mut Cursor<'_, '_>,
 ) -> Result<usize, ReadFault>
-    ensures { Means (λ number. number) result (layer_of_geometry library.now statement.old) }
+    ensures { Means (λ number. number) result (layer_of_geometry profile library.now statement.old) }
 {
     statement.keyword(b"LAYER")?;
     let named = statement.again();
@@ -53,7 +74,7 @@ fn layer_of_geometry<A: Allocator + Copy>(
     let Some(number) = library.layer_named(name) else {
         return Err(named.need(FaultKind::UnknownName, Need::Known(NameKind::Layer)));
     };
-    nothing_said(statement)?;
+    nothing_said(profile, statement)?;
     Ok(number)
 }
 
@@ -64,11 +85,27 @@ fn is_other_shape(statement: &Cursor<'_, '_>) -> bool
     statement.is_at(b"POLYGON") || statement.is_at(b"PATH") || statement.is_at(b"VIA")
 }
 
-// Whether `MASK` or `ITERATE` follows the first word.
-fn is_masked_or_iterated(statement: &Cursor<'_, '_>) -> bool {
+// Whether `MASK` or `ITERATE` follows the first word, or a mask that is dropped.
+fn is_masked_or_iterated(profile: Profile, statement: &Cursor<'_, '_>) -> bool {
     let mut words = statement.again();
     let _rect = words.any();
+    let _mask = past_mask(profile, &mut words);
     words.is_at(b"MASK") || words.is_at(b"ITERATE")
+}
+
+/// Adds rectangles as shapes of the layer.
+#[tactic(auto, using(crate::proofs::DrawnShapes::no_shape_more, crate::proofs::DrawnShapes::one_shape_more, crate::proofs::DrawnShapes::all_shapes))]
+fn add_rects<A: Allocator>(
+    shapes: &mut Vec<RawShape, A>,
+    layer: usize,
+    rects: &[RawRect],
+) -> Result<(), AllocError>
+    ensures { OnOk result (shapes.new.items ≡ shapes.old.items ++ shapes_on layer rects.now) }
+{
+    'rects: for rect in rects {
+        shapes.push(RawShape { layer, rect: *rect })?;
+    }
+    Ok(())
 }
 
 /// The shapes of the statements that were read, and the number of the layer that the next one is on.
@@ -101,10 +138,11 @@ impl<A: Allocator + Copy> Drawing<A> {
     #[tactic(auto, unfolding(leg_grammar::specs::Lef::Geometry::drawn_rect))]
     pub(crate) fn draw_rect(
         &mut self,
+        profile: Profile,
         library: &RawLibrary<'_, A>,
         statement: &mut Cursor<'_, '_>,
     ) -> Result<(), ReadFault>
-        ensures { Means (λ _. self.new) result (drawn_rect library.now self.old statement.old) }
+        ensures { Means (λ _. self.new) result (drawn_rect profile library.now self.old statement.old) }
     {
         let Some(layer) = self.on else {
             return Err(statement.need(
@@ -113,23 +151,70 @@ impl<A: Allocator + Copy> Drawing<A> {
             ));
         };
         if has_metal(library.layers(), layer) {
-            let rect = rect(statement)?;
+            let rect = rect(profile, statement)?;
             self.shapes.push(RawShape { layer, rect })?;
         }
         Ok(())
     }
 
-    /// The same in a port or in obstructions, where a rectangle with `MASK` or `ITERATE` is `Unsupported`.
+    /// The same in a port or in obstructions, where a rectangle with `MASK`, unless masks are dropped, or with `ITERATE` is
+    /// `Unsupported`.
     fn draw_plain_rect(
         &mut self,
+        profile: Profile,
         library: &RawLibrary<'_, A>,
         statement: &mut Cursor<'_, '_>,
     ) -> Result<(), ReadFault>
-        ensures { Means (λ _. self.new) result (drawn_rect library.now self.old statement.old) }
+        ensures { Means (λ _. self.new) result (drawn_rect profile library.now self.old statement.old) }
     {
         let first = statement.again();
-        match self.draw_rect(library, statement) {
-            Err(fault) if fault.kind == FaultKind::BadNumber && is_masked_or_iterated(&first) => {
+        match self.draw_rect(profile, library, statement) {
+            Err(fault)
+                if fault.kind == FaultKind::BadNumber && is_masked_or_iterated(profile, &first) => {
+                Err(fault.of_kind(FaultKind::Unsupported))
+            }
+            drawn => drawn,
+        }
+    }
+
+    /// Adds the slabs of a `POLYGON` statement, where the layer has metal.
+    #[tactic(auto, unfolding(leg_grammar::specs::Lef::Geometry::drawn_polygon))]
+    fn draw_polygon(
+        &mut self,
+        alloc: A,
+        profile: Profile,
+        library: &RawLibrary<'_, A>,
+        statement: &mut Cursor<'_, '_>,
+    ) -> Result<(), ReadFault>
+        ensures { Means (λ _. self.new) result (drawn_polygon profile library.now self.old statement.old) }
+    {
+        let Some(number) = self.on else {
+            return Err(statement.need(
+                FaultKind::Unexpected,
+                Need::Keyword(Keyword::new(b"LAYER")),
+            ));
+        };
+        if has_metal(library.layers(), number) {
+            let rects = polygon(alloc, profile, statement)?;
+            add_rects(&mut self.shapes, number, &rects)?;
+        }
+        Ok(())
+    }
+
+    /// The same, where a polygon with `MASK`, unless masks are dropped, or with `ITERATE` is `Unsupported`.
+    fn draw_plain_polygon(
+        &mut self,
+        alloc: A,
+        profile: Profile,
+        library: &RawLibrary<'_, A>,
+        statement: &mut Cursor<'_, '_>,
+    ) -> Result<(), ReadFault>
+        ensures { Means (λ _. self.new) result (drawn_polygon profile library.now self.old statement.old) }
+    {
+        let first = statement.again();
+        match self.draw_polygon(alloc, profile, library, statement) {
+            Err(fault)
+                if fault.kind == FaultKind::BadNumber && is_masked_or_iterated(profile, &first) => {
                 Err(fault.of_kind(FaultKind::Unsupported))
             }
             drawn => drawn,
@@ -150,19 +235,23 @@ impl<A: Allocator + Copy> Drawing<A> {
     #[tactic(auto, unfolding(leg_grammar::specs::Lef::Geometry::geometry_part))]
     fn draw(
         &mut self,
+        alloc: A,
+        profile: Profile,
         library: &RawLibrary<'_, A>,
         statement: &mut Cursor<'_, '_>,
     ) -> Result<(), ReadFault>
-        ensures { Means (λ _. self.new) result (geometry_part library.now self.old statement.old) }
+        ensures { Means (λ _. self.new) result (geometry_part profile library.now self.old statement.old) }
     {
         if statement.is_at(b"LAYER") {
-            let number = layer_of_geometry(library, statement)?;
+            let number = layer_of_geometry(profile, library, statement)?;
             self.on = Some(number);
             Ok(())
         } else if statement.is_at(b"RECT") {
-            self.draw_plain_rect(library, statement)
+            self.draw_plain_rect(profile, library, statement)
         } else if statement.is_at(b"WIDTH") || statement.is_at(b"CLASS") {
             Ok(())
+        } else if is_read_polygon(profile, statement) {
+            self.draw_plain_polygon(alloc, profile, library, statement)
         } else if !is_other_shape(statement) {
             Err(statement.need(FaultKind::Unexpected, Need::Form))
         } else if self.is_off_metal(library) {
@@ -176,13 +265,15 @@ impl<A: Allocator + Copy> Drawing<A> {
     #[tactic(auto, using(leg_lex::proofs::EachElement::over_ends, leg_lex::proofs::EachElement::over_goes_on, leg_lex::proofs::EachElement::over_fails))]
     fn draw_all(
         &mut self,
+        alloc: A,
+        profile: Profile,
         library: &RawLibrary<'_, A>,
         statements: &[Cursor<'_, '_>],
     ) -> Result<(), ReadFault>
-        ensures { Means (λ _. self.new) result (over (geometry_part library.now) self.old statements.now) }
+        ensures { Means (λ _. self.new) result (over (geometry_part profile library.now) self.old statements.now) }
     {
         for statement in statements {
-            self.draw(library, &mut statement.again())?;
+            self.draw(alloc, profile, library, &mut statement.again())?;
         }
         Ok(())
     }
@@ -192,13 +283,14 @@ impl<A: Allocator + Copy> Drawing<A> {
 #[tactic(auto, unfolding(leg_grammar::specs::Lef::Geometry::geometry_at))]
 pub(crate) fn geometry<'a, A: Allocator + Copy>(
     alloc: A,
+    profile: Profile,
     library: &RawLibrary<'a, A>,
     words: &mut Cursor<'_, 'a>,
 ) -> Result<Vec<RawShape, A>, ReadFault>
-    ensures { Reads (λ v. v.items) result words.new (geometry_at library.now words.old) }
+    ensures { Reads (λ v. v.items) result words.new (geometry_at profile library.now words.old) }
 {
     let statements = words.statements(alloc)?;
     let mut drawing = Drawing::new(alloc);
-    drawing.draw_all(library, &statements)?;
+    drawing.draw_all(alloc, profile, library, &statements)?;
     Ok(drawing.shapes)
 }

@@ -10,6 +10,7 @@ ghost use Rattle.leg_grammar.specs.Lef.Macro.{no_macro_parts, macro_pin, macro_o
 use crate::geometry::geometry;
 use crate::named::second_definition;
 use crate::pin::pin;
+use leg_grammar::Profile;
 use leg_lex::{Cursor, NameKind, Names, ReadFault};
 use leg_lib_records::{RawLibrary, RawPin, RawShape};
 use std::alloc::{AllocError, Allocator};
@@ -66,13 +67,14 @@ impl<'t, 'a, A: Allocator + Copy> MacroParts<'t, 'a, A> {
     fn macro_pin(
         &mut self,
         alloc: A,
+        profile: Profile,
         library: &RawLibrary<'a, A>,
         words: &mut Cursor<'t, 'a>,
     ) -> Result<(), ReadFault>
-        ensures { Reads (λ _. self.new) result words.new (macro_pin library.now self.old words.old) }
+        ensures { Reads (λ _. self.new) result words.new (macro_pin profile library.now self.old words.old) }
     {
         let first = words.again();
-        let pin = pin(alloc, library, words)?;
+        let pin = pin(alloc, profile, library, words)?;
         if self.pin_names.place_of(pin.name.bytes()).is_some() {
             return Err(second_definition(&first, NameKind::MacroPin));
         }
@@ -85,13 +87,14 @@ impl<'t, 'a, A: Allocator + Copy> MacroParts<'t, 'a, A> {
     fn macro_obstruction(
         &mut self,
         alloc: A,
+        profile: Profile,
         library: &RawLibrary<'a, A>,
         words: &mut Cursor<'t, 'a>,
     ) -> Result<(), ReadFault>
-        ensures { Reads (λ _. self.new) result words.new (macro_obstruction library.now self.old words.old) }
+        ensures { Reads (λ _. self.new) result words.new (macro_obstruction profile library.now self.old words.old) }
     {
         words.keyword(b"OBS")?;
-        let mut shapes = geometry(alloc, library, words)?;
+        let mut shapes = geometry(alloc, profile, library, words)?;
         words.keyword(b"END")?;
         self.obstructions.append(&mut shapes)?;
         Ok(())
@@ -130,15 +133,16 @@ impl<'t, 'a, A: Allocator + Copy> MacroParts<'t, 'a, A> {
     pub(crate) fn macro_part(
         &mut self,
         alloc: A,
+        profile: Profile,
         library: &RawLibrary<'a, A>,
         words: &mut Cursor<'t, 'a>,
     ) -> Result<(), ReadFault>
-        ensures { Reads (λ _. self.new) result words.new (macro_part library.now self.old words.old) }
+        ensures { Reads (λ _. self.new) result words.new (macro_part profile library.now self.old words.old) }
     {
         if words.is_at(b"PIN") {
-            self.macro_pin(alloc, library, words)
+            self.macro_pin(alloc, profile, library, words)
         } else if words.is_at(b"OBS") {
-            self.macro_obstruction(alloc, library, words)
+            self.macro_obstruction(alloc, profile, library, words)
         } else if words.is_at(b"DENSITY") {
             self.macro_density(words)
         } else if words.is_at(b"TIMING") {
@@ -153,13 +157,14 @@ impl<'t, 'a, A: Allocator + Copy> MacroParts<'t, 'a, A> {
     pub(crate) fn macro_parts(
         &mut self,
         alloc: A,
+        profile: Profile,
         library: &RawLibrary<'a, A>,
         words: &mut Cursor<'t, 'a>,
     ) -> Result<(), ReadFault>
-        ensures { Reads (λ _. self.new) result words.new (until at_end (macro_part library.now) self.old words.old) }
+        ensures { Reads (λ _. self.new) result words.new (until at_end (macro_part profile library.now) self.old words.old) }
     {
         'parts: while !words.is_at(b"END") {
-            self.macro_part(alloc, library, words)?;
+            self.macro_part(alloc, profile, library, words)?;
         }
         Ok(())
     }

@@ -1,15 +1,15 @@
 //! Macros (LEF/DEF 5.8, "Macro").
 
-ghost use Rattle.std.specs.Prelude.{codes, if◌then◌else◌, Some, None};
+ghost use Rattle.std.specs.Prelude.{◌≡◌, OnErr, codes, if◌then◌else◌, Some, None};
 ghost use Rattle.std.specs.List.{list_any, list_all};
 ghost use Rattle.leg_lex.specs.Words.{Reads, Means, is_word, is_keyword};
 ghost use Rattle.leg_lex.specs.Statements.{only};
-ghost use Rattle.leg_grammar.specs.Lef.Macro.{origin_in, origin_of_any, symmetry_in, symmetry_of_any, site_in, site_of_any, macro_said, macro_at, with_macro};
+ghost use Rattle.leg_grammar.specs.Lef.Macro.{origin_in, origin_of_any, symmetry_in, symmetry_of_any, site_in, site_of_any, macro_said, macro_at, with_master};
 
 use crate::macro_part::MacroParts;
 use crate::named::second_definition;
 use crate::point;
-use leg_grammar::MacroStatements;
+use leg_grammar::{MacroStatements, Profile};
 use leg_lex::{Cursor, FaultKind, Micron, Name, NameKind, Need, ReadFault, is_keyword, only, the};
 use leg_lib_records::{Items, RawExtent, RawLibrary, RawMaster, RawPoint};
 use std::alloc::Allocator;
@@ -143,15 +143,16 @@ fn macro_said<A: Allocator + Copy>(
 #[tactic(auto, unfolding(leg_grammar::specs::Lef::Macro::macro_at))]
 fn master<'a, A: Allocator + Copy>(
     alloc: A,
+    profile: Profile,
     library: &RawLibrary<'a, A>,
     words: &mut Cursor<'_, 'a>,
 ) -> Result<RawMaster<'a, A>, ReadFault>
-    ensures { Reads (λ m. m) result words.new (macro_at library.now words.old) }
+    ensures { Reads (λ m. m) result words.new (macro_at profile library.now words.old) }
 {
     words.keyword(b"MACRO")?;
     let name = words.name()?;
     let mut parts = MacroParts::new(alloc);
-    parts.macro_parts(alloc, library, words)?;
+    parts.macro_parts(alloc, profile, library, words)?;
     let said = macro_said(library, &parts.statements, words)?;
     words.end_of(name)?;
     Ok(RawMaster {
@@ -166,16 +167,19 @@ fn master<'a, A: Allocator + Copy>(
 }
 
 /// Adds the macro that comes next, whose name is new.
-#[tactic(auto, unfolding(leg_grammar::specs::Lef::Macro::with_macro))]
-pub(crate) fn macro_form<'a, A: Allocator + Copy>(
+#[tactic(auto, unfolding(leg_grammar::specs::Lef::Macro::with_master))]
+pub(crate) fn master_form<'a, A: Allocator + Copy>(
     alloc: A,
+    profile: Profile,
     library: &mut RawLibrary<'a, A>,
     words: &mut Cursor<'_, 'a>,
 ) -> Result<(), ReadFault>
-    ensures { Reads (λ _. library.new) result words.new (with_macro library.old words.old) }
+    ensures reads { Reads (λ _. library.new) result words.new (with_master profile library.old words.old) }
+    // A refusal adds nothing.
+    ensures unchanged { OnErr result (library.new ≡ library.old) }
 {
     let first = words.again();
-    let master = master(alloc, library, words)?;
+    let master = master(alloc, profile, library, words)?;
     if library.master_named(master.name.bytes()).is_some() {
         return Err(second_definition(&first, NameKind::Macro));
     }

@@ -7,6 +7,7 @@ ghost use Rattle.leg_lex.specs.Statements.{at_end};
 ghost use Rattle.leg_grammar.specs.Lef.Pin.{no_pin_parts, port_at, pin_part, use_in, supply_of, supply_of_any, pin_at};
 
 use crate::geometry::geometry;
+use leg_grammar::Profile;
 use leg_lex::{Cursor, Name, ReadFault, is_keyword, only};
 use leg_lib_records::{Items, RawLibrary, RawPin, RawShape, Supply};
 use std::alloc::Allocator;
@@ -33,13 +34,14 @@ impl<'t, 'a, A: Allocator + Copy> Parts<'t, 'a, A> {
     fn add(
         &mut self,
         alloc: A,
+        profile: Profile,
         library: &RawLibrary<'a, A>,
         words: &mut Cursor<'t, 'a>,
     ) -> Result<(), ReadFault>
-        ensures { Reads (λ _. self.new) result words.new (pin_part library.now self.old words.old) }
+        ensures { Reads (λ _. self.new) result words.new (pin_part profile library.now self.old words.old) }
     {
         if words.is_at(b"PORT") {
-            let shapes = port(alloc, library, words)?;
+            let shapes = port(alloc, profile, library, words)?;
             self.shapes.extend_from_slice(&shapes)?;
         } else {
             let statement = words.statement()?;
@@ -53,13 +55,14 @@ impl<'t, 'a, A: Allocator + Copy> Parts<'t, 'a, A> {
 #[tactic(auto, unfolding(leg_grammar::specs::Lef::Pin::port_at))]
 fn port<'a, A: Allocator + Copy>(
     alloc: A,
+    profile: Profile,
     library: &RawLibrary<'a, A>,
     words: &mut Cursor<'_, 'a>,
 ) -> Result<Vec<RawShape, A>, ReadFault>
-    ensures { Reads (λ v. v.items) result words.new (port_at library.now words.old) }
+    ensures { Reads (λ v. v.items) result words.new (port_at profile library.now words.old) }
 {
     words.keyword(b"PORT")?;
-    let shapes = geometry(alloc, library, words)?;
+    let shapes = geometry(alloc, profile, library, words)?;
     words.keyword(b"END")?;
     Ok(shapes)
 }
@@ -68,17 +71,18 @@ fn port<'a, A: Allocator + Copy>(
 #[tactic(auto, using(leg_lex::proofs::Until::ends, leg_lex::proofs::Until::goes_on, leg_lex::proofs::Until::fails, crate::proofs::Pins::pin_part_shortens, crate::proofs::Pins::pin_part_shorter))]
 fn all_parts<'t, 'a, A: Allocator + Copy>(
     alloc: A,
+    profile: Profile,
     library: &RawLibrary<'a, A>,
     words: &mut Cursor<'t, 'a>,
 ) -> Result<Parts<'t, 'a, A>, ReadFault>
-    ensures { Reads (λ p. p) result words.new (until at_end (pin_part library.now) no_pin_parts words.old) }
+    ensures { Reads (λ p. p) result words.new (until at_end (pin_part profile library.now) no_pin_parts words.old) }
 {
     let mut parts = Parts {
         shapes: Vec::new(alloc),
         statements: Vec::new(alloc),
     };
     'parts: while !words.is_at(b"END") {
-        parts.add(alloc, library, words)?;
+        parts.add(alloc, profile, library, words)?;
     }
     Ok(parts)
 }
@@ -121,14 +125,15 @@ fn supply_of_any(statement: Option<Cursor<'_, '_>>) -> Result<Supply, ReadFault>
 #[tactic(auto, unfolding(leg_grammar::specs::Lef::Pin::pin_at))]
 pub(crate) fn pin<'a, A: Allocator + Copy>(
     alloc: A,
+    profile: Profile,
     library: &RawLibrary<'a, A>,
     words: &mut Cursor<'_, 'a>,
 ) -> Result<RawPin<'a, A>, ReadFault>
-    ensures { Reads (λ p. p) result words.new (pin_at library.now words.old) }
+    ensures { Reads (λ p. p) result words.new (pin_at profile library.now words.old) }
 {
     words.keyword(b"PIN")?;
     let name = words.name()?;
-    let parts = all_parts(alloc, library, words)?;
+    let parts = all_parts(alloc, profile, library, words)?;
     let found = only(&parts.statements, b"USE")?;
     let supply = supply_of_any(found)?;
     words.end_of(name)?;

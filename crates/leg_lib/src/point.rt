@@ -6,6 +6,8 @@ ghost use Rattle.leg_lex.specs.Words.{Reads, Means};
 ghost use Rattle.leg_grammar.specs.Lef.Point.{coordinates_at, enclosed_point_at, point_at, rect_in, size_in};
 ghost use Rattle.leg_lib_records.specs.Measure.{rect_between};
 
+use leg_grammar::Profile;
+use leg_grammar::mask::past_mask;
 use leg_lex::{Cursor, FaultKind, Micron, ReadFault};
 use leg_lib_records::{RawExtent, RawPoint, RawRect};
 
@@ -82,10 +84,11 @@ fn rect_between(p: &RawPoint, q: &RawPoint) -> Option<RawRect>
 
 /// The rectangle of a `RECT` statement, whose corners are in any order.
 #[tactic(auto, unfolding(leg_grammar::specs::Lef::Point::rect_in))]
-pub(crate) fn rect(statement: &mut Cursor<'_, '_>) -> Result<RawRect, ReadFault>
-    ensures { Means (λ r. r) result (rect_in statement.old) }
+pub(crate) fn rect(profile: Profile, statement: &mut Cursor<'_, '_>) -> Result<RawRect, ReadFault>
+    ensures { Means (λ r. r) result (rect_in profile statement.old) }
 {
     statement.keyword(b"RECT")?;
+    past_mask(profile, statement)?;
     let corner = statement.again();
     let p = point(statement)?;
     let q = point(statement)?;

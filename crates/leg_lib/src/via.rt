@@ -7,6 +7,8 @@ ghost use Rattle.leg_grammar.specs.Lef.Via.{flag_at, flags_at, no_via_parts, lay
 
 use crate::geometry::Drawing;
 use crate::named::second_definition;
+use leg_grammar::Profile;
+use leg_grammar::mask::drops_masks;
 use leg_lex::{Cursor, FaultKind, Name, NameKind, Need, ReadFault};
 use leg_lib_records::{Items, RawLibrary, RawShape, RawVia, is_wiring_word};
 use std::alloc::{AllocError, Allocator};
@@ -132,12 +134,15 @@ fn is_masked_rect(statement: &Cursor<'_, '_>) -> Result<bool, ReadFault>
     Ok(rect.is_at(b"MASK"))
 }
 
-/// Whether a via with this statement isn't good: `VIARULE`, `POLYGON` and `RECT MASK`.
-fn spoils(statement: &Cursor<'_, '_>) -> Result<bool, ReadFault>
-    ensures { Means (λ is. is) result (Some (spoils statement.now)) }
+/// Whether a via with this statement isn't good: `VIARULE`, `POLYGON`, and `RECT MASK` unless masks are dropped.
+fn spoils(profile: Profile, statement: &Cursor<'_, '_>) -> Result<bool, ReadFault>
+    ensures { Means (λ is. is) result (Some (spoils profile statement.now)) }
 {
     if statement.is_at(b"VIARULE") || statement.is_at(b"POLYGON") {
         return Ok(true);
+    }
+    if drops_masks(profile) {
+        return Ok(false);
     }
     is_masked_rect(statement)
 }
@@ -157,17 +162,18 @@ impl<A: Allocator + Copy> ViaParts<A> {
     #[tactic(auto, unfolding(leg_grammar::specs::Lef::Via::via_part))]
     fn part(
         &mut self,
+        profile: Profile,
         library: &RawLibrary<'_, A>,
         statement: &mut Cursor<'_, '_>,
     ) -> Result<(), ReadFault>
-        ensures { Means (λ _. self.new) result (via_part library.now self.old statement.old) }
+        ensures { Means (λ _. self.new) result (via_part profile library.now self.old statement.old) }
     {
-        if spoils(statement)? {
+        if spoils(profile, statement)? {
             self.is_spoilt = true;
         } else if statement.is_at(b"LAYER") {
             self.drawing.on = Some(layer(library, statement)?);
         } else if statement.is_at(b"RECT") {
-            self.drawing.draw_rect(library, statement)?;
+            self.drawing.draw_rect(profile, library, statement)?;
         }
         Ok(())
     }
@@ -177,14 +183,15 @@ impl<A: Allocator + Copy> ViaParts<A> {
 #[tactic(auto, using(crate::proofs::Vias::parts_on, crate::proofs::Vias::parts_fail, crate::proofs::Vias::parts_end))]
 fn parts<A: Allocator + Copy>(
     alloc: A,
+    profile: Profile,
     library: &RawLibrary<'_, A>,
     statements: &[Cursor<'_, '_>],
 ) -> Result<ViaParts<A>, ReadFault>
-    ensures { Means (λ p. p) result (over (via_part library.now) no_via_parts statements.now) }
+    ensures { Means (λ p. p) result (over (via_part profile library.now) no_via_parts statements.now) }
 {
     let mut parts = ViaParts::new(alloc);
     for statement in statements {
-        parts.part(library, &mut statement.again())?;
+        parts.part(profile, library, &mut statement.again())?;
     }
     Ok(parts)
 }
@@ -218,16 +225,17 @@ fn kept<A: Allocator>(good: bool, mut shapes: Vec<RawShape, A>) -> Vec<RawShape,
 #[tactic(auto, unfolding(leg_grammar::specs::Lef::Via::via_at))]
 fn via<'a, A: Allocator + Copy>(
     alloc: A,
+    profile: Profile,
     library: &RawLibrary<'a, A>,
     words: &mut Cursor<'_, 'a>,
 ) -> Result<RawVia<'a, A>, ReadFault>
-    ensures { Reads (λ v. v) result words.new (via_at library.now words.old) }
+    ensures { Reads (λ v. v) result words.new (via_at profile library.now words.old) }
 {
     words.keyword(b"VIA")?;
     let name = words.name()?;
     let flags = flags(words)?;
     let statements = words.statements(alloc)?;
-    let parts = parts(alloc, library, &statements)?;
+    let parts = parts(alloc, profile, library, &statements)?;
     words.end_of(name)?;
     let good = is_good(alloc, library, name, &parts)?;
     Ok(RawVia {
@@ -242,13 +250,14 @@ fn via<'a, A: Allocator + Copy>(
 #[tactic(auto, unfolding(leg_grammar::specs::Lef::Via::with_via))]
 pub(crate) fn via_form<'a, A: Allocator + Copy>(
     alloc: A,
+    profile: Profile,
     library: &mut RawLibrary<'a, A>,
     words: &mut Cursor<'_, 'a>,
 ) -> Result<(), ReadFault>
-    ensures { Reads (λ _. library.new) result words.new (with_via library.old words.old) }
+    ensures { Reads (λ _. library.new) result words.new (with_via profile library.old words.old) }
 {
     let first = words.again();
-    let via = via(alloc, library, words)?;
+    let via = via(alloc, profile, library, words)?;
     if library.via_named(via.name.bytes()).is_some() {
         return Err(second_definition(&first, NameKind::Via));
     }

@@ -18,7 +18,9 @@ use Rattle.leg_lib_records.specs.Sound.{IsSound}
 use Rattle.leg_design_records.specs.declared.limits.TheConstants.{ENTRY_LIMIT, PART_LIMIT}
 use Rattle.leg_design_records.specs.Records.{DesignModel, BlockageModel, rect_count}
 use Rattle.leg_design_records.specs.WellFormedParts.{IsArea, IsLayerOfBlockage, IsBlockage, AreBlockages}
-use Rattle.leg_grammar.specs.Def.Blockage.{blocked_layer_at, push_down, at_no_plus, one_rect, at_semicolon, rects_at, blockage_at, is_kept, is_room_for, blockage_entry, blockages_at}
+use Rattle.leg_grammar.specs.declared.profile.Profile.TheVariants.{Narrow}
+use Rattle.leg_grammar.specs.Def.BlockageClause.{blockage_clause}
+use Rattle.leg_grammar.specs.Def.Blockage.{blocked_layer_at, at_no_plus, one_rect, at_semicolon, rects_at, blockage_at, is_kept, is_room_for, blockage_entry, blockages_at}
 use Rattle.leg_design_floorplan.proofs.Blockages.{one_rect_shortens, entry_shortens}
 use Rattle.leg_output.specs.Names.{layer_name}
 use Rattle.leg_output.specs.Text.Blockages as printed
@@ -56,11 +58,11 @@ rects_again (rect ∷ rects) rest some each =
     ap rects_at (append_assoc (rect_words rect) (flat_map rect_words rects) (codes ";" ∷ rest))
     ∙ rw (one_again [] rect (flat_map rect_words rects ++ (codes ";" ∷ rest)) (All-head IsArea rect rects each), more_again rect rects rest each) refl
 
--- no PUSHDOWN is printed
-none_pushed : (rects : List RectModel) (rest : Words) → 1 ≤ length rects
-    → until at_no_plus push_down tt (flat_map rect_words rects ++ rest) ≡ Some (tt, flat_map rect_words rects ++ rest)
-none_pushed [] rest some = absurd (omega arith)
-none_pushed (rect ∷ rects) rest some = ends at_no_plus push_down tt (flat_map rect_words (rect ∷ rects) ++ rest) refl
+-- no clause is printed
+no_clauses : (layer : Option ℕ) (rects : List RectModel) (rest : Words) → 1 ≤ length rects
+    → until at_no_plus (blockage_clause Narrow layer) true (flat_map rect_words rects ++ rest) ≡ Some (true, flat_map rect_words rects ++ rest)
+no_clauses layer [] rest some = absurd (omega arith)
+no_clauses layer (rect ∷ rects) rest some = ends at_no_plus (blockage_clause Narrow layer) true (flat_map rect_words (rect ∷ rects) ++ rest) refl
 
 -- a blockage whose layer has metal is kept
 stays_kept : (library : LibraryModel) (layer : Option ℕ) → IsLayerOfBlockage library layer → is_kept library layer ≡ true
@@ -114,19 +116,19 @@ module _ (design : DesignModel) (sound : IsSound design.library) where
       (first_passes stays_one (layer_name design layer) [] one)) free_nil)
 
   module _ (blockage : BlockageModel) (is : IsBlockage design.library blockage) where
-    blockage_at_again : (rest : Words) → blockage_at design.library (blockage_words design blockage ++ rest) ≡ Some (blockage, rest)
+    blockage_at_again : (rest : Words) → blockage_at Narrow design.library (blockage_words design blockage ++ rest) ≡ Some ((blockage, true), rest)
     unfolding blockage_at mark_at next_at
     blockage_at_again rest =
-        ap (blockage_at design.library) (in_turn (blocked_layer_words design blockage.layer) (flat_map rect_words blockage.rects) rest)
+        ap (blockage_at Narrow design.library) (in_turn (blocked_layer_words design blockage.layer) (flat_map rect_words blockage.rects) rest)
         ∙ rw (
           blocked_again blockage.layer (flat_map rect_words blockage.rects ++ (codes ";" ∷ rest)) is.layer,
-          none_pushed blockage.rects (codes ";" ∷ rest) is.some,
+          no_clauses blockage.layer blockage.rects (codes ";" ∷ rest) is.some,
           rects_again blockage.rects rest is.some is.rects,
         ) refl
 
     pub blockage_again : (front : List BlockageModel) → length front < ENTRY_LIMIT → rect_count front + length blockage.rects ≤ PART_LIMIT
         → (rest : Words)
-        → blockage_entry design.library front (blockage_words design blockage ++ rest) ≡ Some (front ++ blockage ∷ [], rest)
+        → blockage_entry Narrow design.library front (blockage_words design blockage ++ rest) ≡ Some (front ++ blockage ∷ [], rest)
     unfolding blockage_entry
     blockage_again front few few_rects rest =
         rw (blockage_at_again rest, stays_kept design.library blockage.layer is.layer, room blockage front few few_rects) refl
@@ -141,9 +143,9 @@ module _ (design : DesignModel) (sound : IsSound design.library) where
       blockage_printable = said_printable blockage_inside
 
       pub blockage_line : (front : List BlockageModel) → length front < ENTRY_LIMIT → rect_count front + length blockage.rects ≤ PART_LIMIT
-          → DenotesForm (blockage_entry design.library front) (line (blockage_words design blockage)) (front ++ blockage ∷ [])
+          → DenotesForm (blockage_entry Narrow design.library front) (line (blockage_words design blockage)) (front ++ blockage ∷ [])
       blockage_line front few few_rects =
-          line_says (blockage_entry design.library front) (blockage_words design blockage) (front ++ blockage ∷ []) blockage_printable
+          line_says (blockage_entry Narrow design.library front) (blockage_words design blockage) (front ++ blockage ∷ []) blockage_printable
           (blockage_again front few few_rects)
 
 -- all of them
@@ -152,11 +154,12 @@ blockage_goes design blockage rest = refl
 
 pub blockages_again : (design : DesignModel) (blockage : BlockageModel) (blockages : List BlockageModel) → IsSound design.library
     → AreBlockages design.library (blockage ∷ blockages) → (rest : Words)
-    → blockages_at design.library (section_words (codes "BLOCKAGES") (blockage_words design) (blockage ∷ blockages) ++ rest) ≡ Some (blockage ∷ blockages, rest)
+    → blockages_at Narrow design.library (section_words (codes "BLOCKAGES") (blockage_words design) (blockage ∷ blockages) ++ rest)
+    ≡ Some (blockage ∷ blockages, rest)
 unfolding blockages_at
 blockages_again design blockage blockages sound are rest =
-    section_again (codes "BLOCKAGES") (blockage_entry design.library) (blockage_words design) (λ entries. entries) refl
-    (entry_shortens design.library) blockage blockages few
+    section_again (codes "BLOCKAGES") (blockage_entry Narrow design.library) (blockage_words design) (λ entries. entries) refl
+    (entry_shortens Narrow design.library) blockage blockages few
     (record {
       goes = blockage_goes design;
       read = λ before x after is.

@@ -94,7 +94,7 @@ module _ (design : DesignModel) (sound : IsSound design.library) (vias : AreVias
       ap (λ words. path_at (net_scope Narrow design) special (layer_name design layer ∷ words))
       (append_assoc (width_words special width ++ point_words from first) (point_words to next) rest
       ∙ append_assoc (width_words special width) (point_words from first) (point_words to next ++ rest))
-      ∙ segment_path (net_scope Narrow design) special layer (layer_name design layer)
+      ∙ segment_path (net_scope Narrow design) refl special layer (layer_name design layer)
       (path_layer layer is.routes) from to width is.from_ is.to_ is.straight is.long is.width_ first next rest
       (given_is design.library special layer ext_from is.from_extension) (given_is design.library special layer ext_to is.to_extension) ends
       ∙ ap (λ e. Some (Segment layer from to width e (unwrap_or next (default_extension design.library (written_as special width) layer)) ∷ [], rest))
@@ -119,7 +119,7 @@ module _ (design : DesignModel) (sound : IsSound design.library) (vias : AreVias
       ∙ ap (λ word. path_at (net_scope Narrow design) special (layer_name design two.0 ∷
       (width_words special (pos 0) ++ (point_words at None ++ (word ∷ rest)))))
       named
-      ∙ via_path (net_scope Narrow design) special two.0 (layer_name design two.0) (path_layer two.0 two.2.low_routes) at number other.0 via.name rest is
+      ∙ via_path (net_scope Narrow design) refl special two.0 (layer_name design two.0) (path_layer two.0 two.2.low_routes) at number other.0 via.name rest is
       (record { named = known.name; free = no_wiring_word design.library via known.good; there = known.there; leads = other.1 }) ends no_north
 
   -- the words of any wire
@@ -131,7 +131,7 @@ module _ (design : DesignModel) (sound : IsSound design.library) (vias : AreVias
   wire_again special (ViaAt number at) is rest ends no_north = via_again special number at is.1.0 is.0 is.1.1 is.1.2 rest ends no_north
   wire_again special (Patch layer at rect) is rest ends no_north =
       subst (λ kind. path_at (net_scope Narrow design) kind (patch_words design layer at rect ++ rest) ≡ Some (Patch layer at rect ∷ [], rest)) (sym is.0)
-      (patch_path (net_scope Narrow design) layer (layer_name design layer) at rect rest (path_layer layer is.1) is.2 is.3 ends)
+      (patch_path (net_scope Narrow design) refl layer (layer_name design layer) at rect rest (path_layer layer is.1) is.2 is.3 ends)
 
   -- the names that a via is printed with
   pub lower_named : (number : ℕ) (via : ViaModel) → design_via design number ≡ Some via → via.good ≡ true

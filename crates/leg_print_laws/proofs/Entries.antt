@@ -32,7 +32,7 @@ use Rattle.leg_print_laws.proofs.SectionForms.{nets_are, special_are}
 
 module _ (design : DesignModel) (sound : IsSound design.library) (well : IsWellFormed design) where
   pub via_said : (before after : List ViaModel) (via : ViaModel) → design.vias ≡ before ++ (via ∷ after) → StayOne (via_entry_names design via)
-      → DenotesForm (via_entry design.library before) (line (via_words design via)) (before ++ via ∷ [])
+      → DenotesForm (via_entry Narrow design.library before) (line (via_words design via)) (before ++ via ∷ [])
   via_said before after via is one =
       via_line design sound via (middle (IsDesignVia design.library) design.vias before via after is well.vias.each) one before
       (not_before (λ (v : ViaModel). v.name) before via after (subst (λ vs. AreApart (design_via_names vs)) is well.vias.apart))
@@ -46,15 +46,15 @@ module _ (design : DesignModel) (sound : IsSound design.library) (well : IsWellF
       (not_before (λ (c : Component). c.name) before component after (subst (λ cs. AreApart (component_names cs)) is well.components.apart))
 
   pub pin_said : (before after : List PinModel) (pin : PinModel) → design.pins ≡ before ++ (pin ∷ after) → StayOne (pin_entry_names design pin)
-      → DenotesForm (pin_entry design.library before) (line (pin_words design pin)) (before ++ pin ∷ [])
+      → DenotesForm (pin_entry (net_scope Narrow design) before) (line (pin_words design pin)) (before ++ pin ∷ [])
   pin_said before after pin is one =
-      pin_line design sound pin (middle (IsPin design.library) design.pins before pin after is well.pins.each) one before
+      pin_line design sound design pin (middle (IsPin design.library) design.pins before pin after is well.pins.each) one before
       (omega (arith, fewer_before design.pins before pin after is, well.pins.few))
       (not_before (λ (p : PinModel). p.name) before pin after (subst (λ ps. AreApart (pin_names ps)) is well.pins.apart))
 
   pub blockage_entry_said : (before after : List BlockageModel) (blockage : BlockageModel) → design.blockages ≡ before ++ (blockage ∷ after)
       → StayOne (blockage_entry_names design blockage)
-      → DenotesForm (blockage_entry design.library before) (line (blockage_words design blockage)) (before ++ blockage ∷ [])
+      → DenotesForm (blockage_entry Narrow design.library before) (line (blockage_words design blockage)) (before ++ blockage ∷ [])
   blockage_entry_said before after blockage is one =
       blockage_line design sound blockage (middle (IsBlockage design.library) design.blockages before blockage after is well.blockages.each) one before
       (omega (arith, fewer_before design.blockages before blockage after is, well.blockages.few))

@@ -15,7 +15,7 @@ use Rattle.leg_design_records.specs.Records.{DesignModel, TrackModel}
 use Rattle.leg_design_records.specs.WellFormedParts.{IsKept, IsArea, IsRow, IsTrack}
 use Rattle.leg_design_records.proofs.SameTerminal.{number_itself}
 use Rattle.leg_grammar.specs.declared.profile.Profile.TheVariants.{Narrow}
-use Rattle.leg_grammar.specs.Def.Parts.{DesignParts, no_die, no_parts, divider_form, bus_form, name_form, units_form, die_form, row_form, track_form}
+use Rattle.leg_grammar.specs.Def.Parts.{DesignParts, no_die, no_parts, divider_form, bus_form, name_form, units_form, die_form, kept_row_form, row_form, track_form}
 use Rattle.leg_grammar.specs.Def.SkippedForms.{past_def_form}
 use Rattle.leg_grammar.specs.Def.Form.{header_form, def_form_at}
 use Rattle.leg_output.specs.Text.Header.{version_words, word_words, units_words, die_words}
@@ -41,6 +41,7 @@ header_parts library named with_units with_die divider bus name die = record {
   profile = Narrow;
   has = record ((no_parts Narrow library).has) { name = named; units = with_units; die = with_die };
   design = record ((no_parts Narrow library).design) { divider = divider; bus = bus; name = name; die = die };
+  dropped = [];
 }
 
 module _ (library : LibraryModel) where
@@ -119,7 +120,7 @@ module _ (design : DesignModel) (sound : IsSound design.library) where
 
   pub rows_lead : (front rows : List Row) → All (IsRow design.library) rows → StayOne (flat_map (row_names design) rows)
       → Leads (framed front []) (flat_map (row_words design) rows) (framed (front ++ rows) [])
-  unfolding def_form_at header_form row_form
+  unfolding def_form_at header_form row_form kept_row_form
   rows_lead front [] each one = subst (λ all. Leads (framed front []) [] (framed all [])) (sym (append-nil front)) (leads_nil (framed front []))
   rows_lead front (row ∷ rows) each one =
       leads_append (leads_form (framed front []) (row_words design row) (framed (front ++ row ∷ []) []) (omega arith) (λ rest. refl) read)

@@ -20,7 +20,11 @@ use Rattle.leg_design_records.specs.declared.records.Status.{Status}
 use Rattle.leg_design_records.specs.declared.records.Status.TheVariants.{Unplaced, Placed, Fixed, Cover}
 use Rattle.leg_design_records.specs.Records.{DesignModel, PortModel, PinModel, pin_names}
 use Rattle.leg_design_records.specs.WellFormedParts.{IsKept, IsNameIfAny, IsPlaced, IsMetalShape, IsPort, IsPin, ArePins}
-use Rattle.leg_grammar.specs.Def.Port.{layer_rect, past_rules, past_number}
+use Rattle.leg_grammar.specs.declared.profile.Profile.TheVariants.{Narrow}
+use Rattle.leg_grammar.specs.Def.NetScope.{NetScopeModel}
+use Rattle.leg_grammar.specs.Def.Clause.{past_number}
+use Rattle.leg_grammar.specs.Mask.{past_mask}
+use Rattle.leg_grammar.specs.Def.Port.{layer_rect, past_rules}
 use Rattle.leg_grammar.specs.Def.PinClauses as read
 use Rattle.leg_grammar.specs.Def.PinClauses.{PinClauses, no_pin_clauses, net_of_pin, word_in, all_ports, port_start, port_rect, pin_net_clause, direction_clause, pin_use_clause, pin_clause}
 use Rattle.leg_grammar.specs.Def.Pin.{pin_head, pin_in, pin_entry, pins_at}
@@ -48,12 +52,20 @@ parts_of net direction usage done last = record { net_name = net; direction = di
 abbrev port_of : List Shape → Status → Option Place → PortModel
 port_of shapes status place = record { shapes = shapes; status = status; place = place }
 
-module _ (design : DesignModel) (sound : IsSound design.library) (net direction usage : Option (List ℕ)) (done : List PortModel) where
+-- what pins may name, where this was read before them in the narrow profile
+abbrev scope_of : LibraryModel → DesignModel → NetScopeModel
+scope_of library before = record { profile = Narrow; library = library; vias = before.vias; components = before.components; pins = before.pins }
+
+module _ (design before : DesignModel) (sound : IsSound design.library) (net direction usage : Option (List ℕ)) (done : List PortModel) where
+  -- one more clause of a pin
+  abbrev clause : PinClauses → Words → Option PinClauses
+  clause = pin_clause (scope_of design.library before)
+
   -- rectangles of the last port
   shape_again : (front : List Shape) (shape : Shape) → IsMetalShape design.library shape
-      → pin_clause design.library (parts_of net direction usage done (Some (port_of front Unplaced None))) (shape_clause (codes "LAYER") design shape)
+      → clause (parts_of net direction usage done (Some (port_of front Unplaced None))) (shape_clause (codes "LAYER") design shape)
       ≡ Some (parts_of net direction usage done (Some (port_of (front ++ shape ∷ []) Unplaced None)))
-  unfolding pin_clause port_rect layer_rect past_rules past_number keyword_at nothing_at next_at
+  unfolding pin_clause port_rect layer_rect past_mask past_rules past_number keyword_at nothing_at next_at
   shape_again front shape is =
       rw (
         layer_again design sound shape.layer (corner_words shape.rect) (metal_named design sound shape is),
@@ -62,7 +74,7 @@ module _ (design : DesignModel) (sound : IsSound design.library) (net direction 
       ) refl
 
   shapes_again : (front shapes : List Shape) → All (IsMetalShape design.library) shapes
-      → over (pin_clause design.library) (parts_of net direction usage done (Some (port_of front Unplaced None)))
+      → over clause (parts_of net direction usage done (Some (port_of front Unplaced None)))
       (map (shape_clause (codes "LAYER") design) shapes)
       ≡ Some (parts_of net direction usage done (Some (port_of (front ++ shapes) Unplaced None)))
   unfolding over
@@ -74,7 +86,7 @@ module _ (design : DesignModel) (sound : IsSound design.library) (net direction 
 
   -- its place
   place_said : (shapes : List Shape) (status : Status) (place : Place) → IsPlaced status (Some place)
-      → pin_clause design.library (parts_of net direction usage done (Some (port_of shapes Unplaced None))) (placement_clause status (Some place))
+      → clause (parts_of net direction usage done (Some (port_of shapes Unplaced None))) (placement_clause status (Some place))
       ≡ Some (parts_of net direction usage done (Some (port_of shapes status (Some place))))
   unfolding pin_clause read.port_place
   place_said shapes Unplaced place is = absurd is
@@ -89,7 +101,7 @@ module _ (design : DesignModel) (sound : IsSound design.library) (net direction 
   unplaced Cover is = absurd is
 
   place_clauses_again : (shapes : List Shape) (status : Status) (place : Option Place) → IsPlaced status place
-      → over (pin_clause design.library) (parts_of net direction usage done (Some (port_of shapes Unplaced None))) (port_place_lines status place)
+      → over clause (parts_of net direction usage done (Some (port_of shapes Unplaced None))) (port_place_lines status place)
       ≡ Some (parts_of net direction usage done (Some (port_of shapes status place)))
   unfolding over
   place_clauses_again shapes status None is = rw (unplaced status is) refl
@@ -97,22 +109,22 @@ module _ (design : DesignModel) (sound : IsSound design.library) (net direction 
 
   -- the clauses behind PORT
   port_said : (port : PortModel) → IsPort design.library port
-      → over (pin_clause design.library) (parts_of net direction usage done (Some (port_of [] Unplaced None)))
+      → over clause (parts_of net direction usage done (Some (port_of [] Unplaced None)))
       (map (shape_clause (codes "LAYER") design) port.shapes ++ port_place_lines port.status port.place)
       ≡ Some (parts_of net direction usage done (Some port))
   port_said port is =
-      over_append (pin_clause design.library) (map (shape_clause (codes "LAYER") design) port.shapes) (port_place_lines port.status port.place)
+      over_append clause (map (shape_clause (codes "LAYER") design) port.shapes) (port_place_lines port.status port.place)
       (parts_of net direction usage done (Some (port_of [] Unplaced None))) (parts_of net direction usage done (Some (port_of port.shapes Unplaced None)))
       (shapes_again [] port.shapes is.shapes)
       ∙ place_clauses_again port.shapes port.status port.place is.placed
 
-module _ (design : DesignModel) (sound : IsSound design.library) (net direction usage : Option (List ℕ)) where
+module _ (design before : DesignModel) (sound : IsSound design.library) (net direction usage : Option (List ℕ)) where
   -- PORT begins a port behind those before it
   port_again : (done : List PortModel) (last : Option PortModel) (port : PortModel) → IsPort design.library port
-      → over (pin_clause design.library) (parts_of net direction usage done last) (port_clauses design port)
+      → over (pin_clause (scope_of design.library before)) (parts_of net direction usage done last) (port_clauses design port)
       ≡ Some (parts_of net direction usage (all_ports (parts_of net direction usage done last)) (Some port))
   unfolding over pin_clause port_start keyword_at nothing_at next_at
-  port_again done last port is = port_said design sound net direction usage (all_ports (parts_of net direction usage done last)) port is
+  port_again done last port is = port_said design before sound net direction usage (all_ports (parts_of net direction usage done last)) port is
 
   -- what has been said of ports
   pub record HavePorts (parts : PinClauses) (ports : List PortModel) : Type 0 where
@@ -123,7 +135,8 @@ module _ (design : DesignModel) (sound : IsSound design.library) (net direction 
 
   ports_again : (done : List PortModel) (last : Option PortModel) (front ports : List PortModel) → all_ports (parts_of net direction usage done last) ≡ front
       → All (IsPort design.library) ports
-      → (next : PinClauses) × (over (pin_clause design.library) (parts_of net direction usage done last) (flat_map (port_clauses design) ports) ≡ Some next)
+      → (next : PinClauses)
+      × (over (pin_clause (scope_of design.library before)) (parts_of net direction usage done last) (flat_map (port_clauses design) ports) ≡ Some next)
       × HavePorts next (front ++ ports)
   unfolding over
   ports_again done last front [] is each =
@@ -133,38 +146,39 @@ module _ (design : DesignModel) (sound : IsSound design.library) (net direction 
       ports_again (all_ports (parts_of net direction usage done last)) (Some port) (front ++ port ∷ []) ports (ap (λ all. all ++ port ∷ []) is)
       (All-tail (IsPort design.library) port ports each) in (
         later.0,
-        over_append (pin_clause design.library) (port_clauses design port) (flat_map (port_clauses design) ports) (parts_of net direction usage done last)
+        over_append (pin_clause (scope_of design.library before)) (port_clauses design port) (flat_map (port_clauses design) ports)
+            (parts_of net direction usage done last)
             (parts_of net direction usage (all_ports (parts_of net direction usage done last)) (Some port))
             (port_again done last port (All-head (IsPort design.library) port ports each)) ∙ later.1,
         subst (HavePorts later.0) (append_assoc front (port ∷ []) ports) later.2,
       )
 
 -- the words that are kept
-module _ (library : LibraryModel) where
+module _ (scope : NetScopeModel) where
   net_kept : (net : Option (List ℕ)) → IsNameIfAny net
-      → over (pin_clause library) no_pin_clauses (kept_clause (codes "NET") net) ≡ Some (parts_of net None None [] None)
+      → over (pin_clause scope) no_pin_clauses (kept_clause (codes "NET") net) ≡ Some (parts_of net None None [] None)
   unfolding over pin_clause pin_net_clause net_of_pin keyword_at name_at nothing_at next_at
   net_kept None is = refl
   net_kept (Some name) is = rw is refl
 
   direction_kept : (net direction : Option (List ℕ)) → IsKept direction
-      → over (pin_clause library) (parts_of net None None [] None) (kept_clause (codes "DIRECTION") direction) ≡ Some (parts_of net direction None [] None)
+      → over (pin_clause scope) (parts_of net None None [] None) (kept_clause (codes "DIRECTION") direction) ≡ Some (parts_of net direction None [] None)
   unfolding over pin_clause direction_clause word_in keyword_at word_at nothing_at next_at
   direction_kept net None is = refl
   direction_kept net (Some word) is = rw is refl
 
   usage_kept : (net direction usage : Option (List ℕ)) → IsKept usage
-      → over (pin_clause library) (parts_of net direction None [] None) (kept_clause (codes "USE") usage) ≡ Some (parts_of net direction usage [] None)
+      → over (pin_clause scope) (parts_of net direction None [] None) (kept_clause (codes "USE") usage) ≡ Some (parts_of net direction usage [] None)
   unfolding over pin_clause pin_use_clause word_in keyword_at word_at nothing_at next_at
   usage_kept net direction None is = refl
   usage_kept net direction (Some word) is = rw is refl
 
-  kept_again : (pin : PinModel) → IsPin library pin
-      → over (pin_clause library) no_pin_clauses (kept_clauses pin) ≡ Some (parts_of pin.net_name pin.direction pin.usage [] None)
+  kept_again : (pin : PinModel) → IsPin scope.library pin
+      → over (pin_clause scope) no_pin_clauses (kept_clauses pin) ≡ Some (parts_of pin.net_name pin.direction pin.usage [] None)
   kept_again pin is =
-      over_append (pin_clause library) (kept_clause (codes "NET") pin.net_name ++ kept_clause (codes "DIRECTION") pin.direction)
+      over_append (pin_clause scope) (kept_clause (codes "NET") pin.net_name ++ kept_clause (codes "DIRECTION") pin.direction)
       (kept_clause (codes "USE") pin.usage) no_pin_clauses (parts_of pin.net_name pin.direction None [] None)
-      (over_append (pin_clause library) (kept_clause (codes "NET") pin.net_name) (kept_clause (codes "DIRECTION") pin.direction) no_pin_clauses
+      (over_append (pin_clause scope) (kept_clause (codes "NET") pin.net_name) (kept_clause (codes "DIRECTION") pin.direction) no_pin_clauses
       (parts_of pin.net_name None None [] None) (net_kept pin.net_name is.net_name)
       ∙ direction_kept pin.net_name pin.direction is.direction)
       ∙ usage_kept pin.net_name pin.direction pin.usage is.usage
@@ -207,15 +221,15 @@ module _ (design : DesignModel) (sound : IsSound design.library) where
       (ports_free ports (All-tail (IsPort design.library) port ports each)
       (next_run_passes stays_one (names_of_layers design port.shapes) (flat_map (λ (p : PortModel). names_of_layers design p.shapes) ports) one))
 
-  module _ (pin : PinModel) (is : IsPin design.library pin) where
+  module _ (before : DesignModel) (pin : PinModel) (is : IsPin design.library pin) where
     pin_in_again : (names : List (List ℕ)) → place_of pin.name names ≡ None
-        → pin_in design.library names ((codes "-" ∷ pin.name ∷ []) ∷ pin_clauses design pin) ≡ Some pin
+        → pin_in (scope_of design.library before) names ((codes "-" ∷ pin.name ∷ []) ∷ pin_clauses design pin) ≡ Some pin
     unfolding pin_in pin_head mark_at name_at nothing_at next_at
     pin_in_again names new =
-        let ports = ports_again design sound pin.net_name pin.direction pin.usage [] None [] pin.ports refl is.ports in
+        let ports = ports_again design before sound pin.net_name pin.direction pin.usage [] None [] pin.ports refl is.ports in
         let whole =
-        over_append (pin_clause design.library) (kept_clauses pin) (flat_map (port_clauses design) pin.ports) no_pin_clauses
-        (parts_of pin.net_name pin.direction pin.usage [] None) (kept_again design.library pin is) ∙ ports.1 in
+        over_append (pin_clause (scope_of design.library before)) (kept_clauses pin) (flat_map (port_clauses design) pin.ports) no_pin_clauses
+        (parts_of pin.net_name pin.direction pin.usage [] None) (kept_again (scope_of design.library before) pin is) ∙ ports.1 in
         rw (is.name, new, whole, ports.2.are, ports.2.ports_are) refl
 
     module _ (one : StayOne (pin_entry_names design pin)) where
@@ -259,7 +273,7 @@ module _ (design : DesignModel) (sound : IsSound design.library) where
       pin_inside = inside_append head_free.inside (clauses_inside (pin_clauses design pin) clauses_free)
 
       pub pin_again : (front : List PinModel) → length front < ENTRY_LIMIT → place_of pin.name (pin_names front) ≡ None → (rest : Words)
-          → pin_entry design.library front (pin_words design pin ++ rest) ≡ Some (front ++ pin ∷ [], rest)
+          → pin_entry (scope_of design.library before) front (pin_words design pin ++ rest) ≡ Some (front ++ pin ∷ [], rest)
       unfolding pin_entry
       pin_again front few new rest =
           rw (
@@ -273,31 +287,33 @@ module _ (design : DesignModel) (sound : IsSound design.library) where
       pin_printable = said_printable pin_inside
 
       pub pin_line : (front : List PinModel) → length front < ENTRY_LIMIT → place_of pin.name (pin_names front) ≡ None
-          → DenotesForm (pin_entry design.library front) (line (pin_words design pin)) (front ++ pin ∷ [])
-      pin_line front few new = line_says (pin_entry design.library front) (pin_words design pin) (front ++ pin ∷ []) pin_printable (pin_again front few new)
+          → DenotesForm (pin_entry (scope_of design.library before) front) (line (pin_words design pin)) (front ++ pin ∷ [])
+      pin_line front few new =
+          line_says (pin_entry (scope_of design.library before) front) (pin_words design pin) (front ++ pin ∷ []) pin_printable (pin_again front few new)
 
 -- all of them
 pin_goes : (design : DesignModel) (pin : PinModel) (rest : Words) → at_end (pin_words design pin ++ rest) ≡ false
 pin_goes design pin rest = refl
 
-pub pins_again : (design : DesignModel) (pin : PinModel) (pins : List PinModel) → IsSound design.library → ArePins design.library (pin ∷ pins)
+pub pins_again : (design before : DesignModel) (pin : PinModel) (pins : List PinModel) → IsSound design.library → ArePins design.library (pin ∷ pins)
     → StayOne (flat_map (pin_entry_names design) (pin ∷ pins)) → (rest : Words)
-    → pins_at design.library (section_words (codes "PINS") (pin_words design) (pin ∷ pins) ++ rest) ≡ Some (pin ∷ pins, rest)
+    → pins_at (scope_of design.library before) (section_words (codes "PINS") (pin_words design) (pin ∷ pins) ++ rest) ≡ Some (pin ∷ pins, rest)
 unfolding pins_at
-pins_again design pin pins sound are one rest =
-    section_again (codes "PINS") (pin_entry design.library) (pin_words design) (λ entries. entries) refl (entry_shortens design.library) pin pins few
+pins_again design before pin pins sound are one rest =
+    section_again (codes "PINS") (pin_entry (scope_of design.library before)) (pin_words design) (λ entries. entries) refl
+    (entry_shortens (scope_of design.library before)) pin pins few
     (record {
       goes = pin_goes design;
-      read = λ before x after is.
-          pin_again design sound x (middle (IsPin design.library) (pin ∷ pins) before x after is are.each)
-          (middle (λ p. StayOne (pin_entry_names design p)) (pin ∷ pins) before x after is (each_passes stays_one (pin_entry_names design) (pin ∷ pins) one))
-          before (less before x after is) (not_before (λ (p : PinModel). p.name) before x after (subst (λ ps. AreApart (pin_names ps)) is are.apart));
+      read = λ front x after is.
+          pin_again design sound before x (middle (IsPin design.library) (pin ∷ pins) front x after is are.each)
+          (middle (λ p. StayOne (pin_entry_names design p)) (pin ∷ pins) front x after is (each_passes stays_one (pin_entry_names design) (pin ∷ pins) one))
+          front (less front x after is) (not_before (λ (p : PinModel). p.name) front x after (subst (λ ps. AreApart (pin_names ps)) is are.apart));
     }) rest where
       few : length (pin ∷ pins) ≤ NUMBER_LIMIT
       few = omega (arith, are.few)
 
-      less : (before : List PinModel) (x : PinModel) (after : List PinModel) → pin ∷ pins ≡ before ++ (x ∷ after) → length before < ENTRY_LIMIT
-      less before x after is = omega (arith, fewer_before (pin ∷ pins) before x after is, are.few)
+      less : (front : List PinModel) (x : PinModel) (after : List PinModel) → pin ∷ pins ≡ front ++ (x ∷ after) → length front < ENTRY_LIMIT
+      less front x after is = omega (arith, fewer_before (pin ∷ pins) front x after is, are.few)
 
 -- the lines of the section have its words
 pub pins_lines : (design : DesignModel) (pins : List PinModel) → IsSound design.library → ArePins design.library pins
@@ -305,5 +321,5 @@ pub pins_lines : (design : DesignModel) (pins : List PinModel) → IsSound desig
 pins_lines design pins sound are one =
     section_lines (codes "PINS") (λ pin. line (pin_words design pin)) (pin_words design) pins (free_literal (codes "PINS") refl refl refl)
     (omega (arith, are.few))
-    (λ k d less. lines_of_words (pin_words design (get_or pins k d)) (pin_printable design sound (get_or pins k d) (are.each k d less)
+    (λ k d less. lines_of_words (pin_words design (get_or pins k d)) (pin_printable design sound design (get_or pins k d) (are.each k d less)
     (each_passes stays_one (pin_entry_names design) pins one k d less)))

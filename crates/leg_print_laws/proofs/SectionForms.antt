@@ -56,6 +56,7 @@ said_parts design forms vias components pins blockages special nets = record {
   profile = Narrow;
   has = forms;
   design = record design { vias = vias; components = components; pins = pins; blockages = blockages; nets = nets; special = special };
+  dropped = [];
 }
 
 module _ (design : DesignModel) (has : HasParts design) where
@@ -87,7 +88,8 @@ module _ (design : DesignModel) (has : HasParts design) where
   pins_lead v c vias components [] are one = leads_nil (said_parts design (appearances v c false false false false) vias components [] [] [] [])
   pins_lead v c vias components (pin ∷ pins) are one =
       leads_form _ (section_words (codes "PINS") (pin_words design) (pin ∷ pins)) _ (omega arith) (λ rest. refl)
-      (λ rest. rw (pins_again design pin pins has.sound are one rest) refl)
+      (λ rest. rw (pins_again design (said_parts design (appearances v c false false false false) vias components [] [] [] []).design pin pins has.sound
+      are one rest) refl)
 
   pub blockages_lead : (v c p : Bool) (vias : List ViaModel) (components : List Component) (pins : List PinModel) (blockages : List BlockageModel)
       → AreBlockages design.library blockages

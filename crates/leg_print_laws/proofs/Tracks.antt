@@ -19,6 +19,8 @@ use Rattle.leg_design_records.specs.declared.records.Axis.TheVariants.{X, Y}
 use Rattle.leg_design_records.specs.Records.{DesignModel, TrackModel}
 use Rattle.leg_design_records.specs.WellFormedParts.{IsTrack}
 use Rattle.leg_grammar.specs.Def.Guard.{is_over}
+use Rattle.leg_grammar.specs.declared.profile.Profile.TheVariants.{Narrow}
+use Rattle.leg_grammar.specs.Def.TrackMask.{past_track_mask}
 use Rattle.leg_grammar.specs.Def.Track.{axis_at, one_layer, layers_in, track_in, track_at}
 use Rattle.leg_design_floorplan.proofs.Tracks.{one_layer_shortens}
 use Rattle.leg_output.specs.Names.{layer_name}
@@ -103,8 +105,8 @@ module _ (design : DesignModel) (sound : IsSound design.library) where
         (free_cons (free_literal (codes "DO") refl refl refl) (free_cons (free_number track.count is.count)
         (free_cons (free_literal (codes "STEP") refl refl refl) (free_cons (free_number track.step is.step) (layers_free track.layers is.layers one)))))))
 
-    track_in_again : track_in design.library (track_said design track) ≡ Some track
-    unfolding track_in keyword_at next_at
+    track_in_again : track_in Narrow design.library (track_said design track) ≡ Some track
+    unfolding track_in past_track_mask keyword_at next_at
     track_in_again =
         rw (
           axis_again track.axis _,
@@ -117,7 +119,7 @@ module _ (design : DesignModel) (sound : IsSound design.library) where
           layers_again track.layers is.layers,
         ) refl
 
-    pub track_again : (rest : Words) → track_at design.library (track_words design track ++ rest) ≡ Some (track, rest)
+    pub track_again : (rest : Words) → track_at Narrow design.library (track_words design track ++ rest) ≡ Some (track, rest)
     unfolding track_at
     track_again rest = rw (said_again (track_said design track) rest track_free.inside, track_in_again) refl
 
@@ -125,5 +127,5 @@ module _ (design : DesignModel) (sound : IsSound design.library) where
     pub track_printable : list_all is_printable (track_words design track) ≡ true
     track_printable = said_printable track_free.inside
 
-    pub track_line : DenotesForm (track_at design.library) (line (track_words design track)) track
-    track_line = line_says (track_at design.library) (track_words design track) track track_printable track_again
+    pub track_line : DenotesForm (track_at Narrow design.library) (line (track_words design track)) track
+    track_line = line_says (track_at Narrow design.library) (track_words design track) track track_printable track_again

@@ -16,7 +16,8 @@ use Rattle.leg_lib_records.specs.Records.{ViaModel}
 use Rattle.leg_lib_records.specs.Sound.{IsSound}
 use Rattle.leg_design_records.specs.Records.{DesignModel, design_via_names}
 use Rattle.leg_design_records.specs.WellFormedParts.{IsMetalShape, IsDesignVia, AreVias}
-use Rattle.leg_grammar.specs.Def.Via.{via_rect, via_clause, via_head, via_in, via_entry, vias_at}
+use Rattle.leg_grammar.specs.declared.profile.Profile.TheVariants.{Narrow}
+use Rattle.leg_grammar.specs.Def.Via.{via_rect, via_clause, via_head, shapes_in, via_in, via_entry, vias_at}
 use Rattle.leg_design_floorplan.proofs.Vias.{entry_shortens}
 use Rattle.leg_output.specs.Text.Points.{corner_words}
 use Rattle.leg_output.specs.Text.Clauses.{shape_clause}
@@ -53,8 +54,8 @@ module _ (design : DesignModel) (sound : IsSound design.library) where
 
   module _ (via : ViaModel) (is : IsDesignVia design.library via) where
     via_in_again : (front : List ViaModel) → place_of via.name (design_via_names front) ≡ None
-        → via_in design.library front ((codes "-" ∷ via.name ∷ []) ∷ map (shape_clause (codes "RECT") design) via.shapes) ≡ Some via
-    unfolding via_in via_head mark_at name_at nothing_at next_at
+        → via_in Narrow design.library front ((codes "-" ∷ via.name ∷ []) ∷ map (shape_clause (codes "RECT") design) via.shapes) ≡ Some via
+    unfolding via_in shapes_in via_head mark_at name_at nothing_at next_at
     via_in_again front new =
         rw (is.name, is.new, new, rects_again [] via.shapes is.shapes, sym is.good, sym is.default_via) refl
 
@@ -73,7 +74,7 @@ module _ (design : DesignModel) (sound : IsSound design.library) where
       via_inside = inside_append head_free.inside (clauses_inside (map (shape_clause (codes "RECT") design) via.shapes) clauses_free)
 
       pub via_again : (front : List ViaModel) → place_of via.name (design_via_names front) ≡ None → (rest : Words)
-          → via_entry design.library front (via_words design via ++ rest) ≡ Some (front ++ via ∷ [], rest)
+          → via_entry Narrow design.library front (via_words design via ++ rest) ≡ Some (front ++ via ∷ [], rest)
       unfolding via_entry
       via_again front new rest =
           rw (
@@ -87,8 +88,8 @@ module _ (design : DesignModel) (sound : IsSound design.library) where
       via_printable = said_printable via_inside
 
       pub via_line : (front : List ViaModel) → place_of via.name (design_via_names front) ≡ None
-          → DenotesForm (via_entry design.library front) (line (via_words design via)) (front ++ via ∷ [])
-      via_line front new = line_says (via_entry design.library front) (via_words design via) (front ++ via ∷ []) via_printable (via_again front new)
+          → DenotesForm (via_entry Narrow design.library front) (line (via_words design via)) (front ++ via ∷ [])
+      via_line front new = line_says (via_entry Narrow design.library front) (via_words design via) (front ++ via ∷ []) via_printable (via_again front new)
 
 -- all of them
 via_goes : (design : DesignModel) (via : ViaModel) (rest : Words) → at_end (via_words design via ++ rest) ≡ false
@@ -97,10 +98,10 @@ via_goes design via rest = refl
 pub vias_again : (design : DesignModel) (via : ViaModel) (vias : List ViaModel) → IsSound design.library → AreVias design.library (via ∷ vias)
     → length (via ∷ vias) ≤ NUMBER_LIMIT
     → StayOne (flat_map (via_entry_names design) (via ∷ vias)) → (rest : Words)
-    → vias_at design.library (section_words (codes "VIAS") (via_words design) (via ∷ vias) ++ rest) ≡ Some (via ∷ vias, rest)
+    → vias_at Narrow design.library (section_words (codes "VIAS") (via_words design) (via ∷ vias) ++ rest) ≡ Some (via ∷ vias, rest)
 unfolding vias_at
 vias_again design via vias sound are few one rest =
-    section_again (codes "VIAS") (via_entry design.library) (via_words design) (λ entries. entries) refl (entry_shortens design.library) via vias few
+    section_again (codes "VIAS") (via_entry Narrow design.library) (via_words design) (λ entries. entries) refl (entry_shortens Narrow design.library) via vias few
     (record {
       goes = via_goes design;
       read = λ before x after is.

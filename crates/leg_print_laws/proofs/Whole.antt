@@ -16,6 +16,7 @@ use Rattle.leg_lib_records.specs.Sound.{IsSound}
 use Rattle.leg_design_records.specs.Records.{DesignModel}
 use Rattle.leg_design_records.specs.WellFormedParts.{IsKept}
 use Rattle.leg_design_records.specs.WellFormed.{IsWellFormed}
+use Rattle.leg_grammar.specs.declared.profile.Profile.{Profile}
 use Rattle.leg_grammar.specs.declared.profile.Profile.TheVariants.{Narrow}
 use Rattle.leg_grammar.specs.Def.Header.{microns_at, units_in}
 use Rattle.leg_grammar.specs.Def.Parts.{no_parts}
@@ -31,6 +32,7 @@ use Rattle.leg_output.specs.Text.Nets.{net_words}
 use Rattle.leg_output.specs.Text.Sections.{end_words, section_text}
 use Rattle.leg_output.specs.Text.Whole.{rows_text, tracks_text, vias_text, components_text, pins_text, blockages_text, nets_text, design_text}
 use Rattle.leg_design_records.specs.Names.{net_section}
+use Rattle.leg_profile_laws.proofs.SameDesign.{words_same}
 use Rattle.leg_print_laws.specs.Forms.{WordsDenote}
 use Rattle.leg_print_laws.specs.PrintedNames.{StayOne, kept_words, row_names, track_names, via_entry_names, component_entry_names, pin_entry_names, blockage_entry_names, net_entry_names, printed_names}
 use Rattle.leg_print_laws.proofs.FreeWords.{IsFree, free_literal, free_word, free_nil, free_cons}
@@ -229,29 +231,31 @@ module _ (design : DesignModel) (sound : IsSound design.library) (well : IsWellF
             (has_some design.nets) well.nets,
       ) refl
 
--- The text says the design.
-pub text_says : (design : DesignModel) → IsSound design.library → IsWellFormed design → StayOne (printed_names design)
+-- The text says the design, in each profile.
+pub text_says : (profile : Profile) (design : DesignModel) → IsSound design.library → IsWellFormed design → StayOne (printed_names design)
     → length (design_text design) ≤ TEXT_LIMIT
-    → Denotes (design_in Narrow design.library) (design_text design) design
-text_says design sound well one fits =
+    → Denotes (design_in profile design.library) (design_text design) design
+text_says profile design sound well one fits =
     let each = all_stay_one design one in
     let few = few_vias design fits in
     let found = lines_are_text (design_text design) (whole_words design) (whole_lines design sound well each few) in record {
       fits = fits;
       words = found.0;
       tokens = found.1;
-      reads = ap (design_in Narrow design.library) found.2 ∙ whole_again design sound well each few;
+      reads = ap (design_in profile design.library) found.2
+          ∙ (words_same profile design.library (whole_words design)).kept design (whole_again design sound well each few);
     }
 
 -- So do its words, however long it is, if the count of its vias is a number.
-pub words_say : (design : DesignModel) → IsSound design.library → IsWellFormed design → StayOne (printed_names design) → length design.vias ≤ NUMBER_LIMIT
-    → WordsDenote (design_in Narrow design.library) (design_text design) design
-words_say design sound well one few =
+pub words_say : (profile : Profile) (design : DesignModel) → IsSound design.library → IsWellFormed design → StayOne (printed_names design)
+    → length design.vias ≤ NUMBER_LIMIT → WordsDenote (design_in profile design.library) (design_text design) design
+words_say profile design sound well one few =
     let each = all_stay_one design one in
     let found = lines_are_text (design_text design) (whole_words design) (whole_lines design sound well each few) in record {
       tokens = found.0;
       are = found.1;
-      reads = ap (design_in Narrow design.library) found.2 ∙ whole_again design sound well each few;
+      reads = ap (design_in profile design.library) found.2
+          ∙ (words_same profile design.library (whole_words design)).kept design (whole_again design sound well each few);
     }
 
 -- UNITS DISTANCE MICRONS stand in a row only where the units are said.
@@ -345,12 +349,13 @@ text_says_units design sound well one fits =
     }
 
 -- It says no other design, where a text is cut in one way.
-pub text_says_only : (design other : DesignModel) → IsSound design.library → IsWellFormed design → StayOne (printed_names design)
+pub text_says_only : (profile : Profile) (design other : DesignModel) → IsSound design.library → IsWellFormed design → StayOne (printed_names design)
     → length (design_text design) ≤ TEXT_LIMIT
     → ((p q : List (List ℕ)) → Cut p (design_text design) → Cut q (design_text design) → p ≡ q)
-    → Denotes (design_in Narrow design.library) (design_text design) other → other ≡ design
-text_says_only design other sound well one fits cut says =
+    → Denotes (design_in profile design.library) (design_text design) other → other ≡ design
+text_says_only profile design other sound well one fits cut says =
     let each = all_stay_one design one in
     let few = few_vias design fits in
     let words = lines_have_only (design_text design) (whole_words design) cut (whole_lines design sound well each few) says.words says.tokens in
-    same_Some other design (sym says.reads ∙ ap (design_in Narrow design.library) words ∙ whole_again design sound well each few)
+    same_Some other design (sym says.reads ∙ ap (design_in profile design.library) words
+    ∙ (words_same profile design.library (whole_words design)).kept design (whole_again design sound well each few))

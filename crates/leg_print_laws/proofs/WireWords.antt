@@ -18,7 +18,7 @@ use Rattle.leg_design_records.specs.WellFormedParts.{IsPosition, AreVias}
 use Rattle.leg_design_records.specs.WellFormedNets.{IsWireWidth, IsWire}
 use Rattle.leg_grammar.specs.declared.profile.Profile.TheVariants.{Narrow}
 use Rattle.leg_grammar.specs.Def.PathItem.{at_path_end}
-use Rattle.leg_grammar.specs.Def.Wiring.{at_no_new, new_path, paths_at, wiring_start, wiring_at}
+use Rattle.leg_grammar.specs.Def.Wiring.{at_no_new, new_path, paths_at, wiring_start, wires_at, wiring_at}
 use Rattle.leg_grammar.specs.Def.Parts.{net_scope}
 use Rattle.leg_output.specs.Names.{layer_name}
 use Rattle.leg_design_records.specs.Names.{via_name}
@@ -119,7 +119,7 @@ module _ (design : DesignModel) (sound : IsSound design.library) (vias : AreVias
     pub wiring_again : (wire : Wire) (wires : List Wire) → All (IsWire design.library design.vias special) (wire ∷ wires)
         → wiring_at (net_scope Narrow design) special (codes "ROUTED" ∷ (wire_words design special wire ++ words_in_lines (map more_words wires))) ≡ Some
         (wire ∷ wires, [])
-    unfolding wiring_at wiring_start paths_at next_at
+    unfolding wiring_at wires_at wiring_start paths_at next_at
     wiring_again wire wires each =
         let words = flat_map more_words wires in
         let same : words_in_lines (map more_words wires) ≡ words ++ [] = flat_map-map (λ v. v) more_words wires ∙ sym (append-nil words) in

@@ -21,9 +21,12 @@ use Rattle.leg_design_records.specs.Layers.{is_routing}
 use Rattle.leg_design_records.specs.Wires.{is_straight, default_extension, is_even}
 use Rattle.leg_design_records.specs.WellFormedParts.{IsPosition, IsArea}
 use Rattle.leg_design_records.specs.WellFormedNets.{IsWireWidth, written, IsExtension}
+use Rattle.leg_grammar.specs.declared.profile.Profile.TheVariants.{Narrow}
+use Rattle.leg_grammar.specs.Def.Count.{count_at}
+use Rattle.leg_grammar.specs.Mask.{past_mask}
 use Rattle.leg_grammar.specs.Def.NetScope.{NetScopeModel, via_named}
 use Rattle.leg_grammar.specs.Def.Path.{is_same_spot, extension_at, segment_width, segment_to, across, wires_from}
-use Rattle.leg_grammar.specs.Def.PathItem.{count_at, coordinate_at, extension_in_point, point_item, first_point_at, rect_item, past_north, via_item, item_at, one_item, at_path_end}
+use Rattle.leg_grammar.specs.Def.PathItem.{coordinate_at, extension_in_point, point_item, first_point_at, rect_item, past_north, via_at, via_item, other_item, item_without_mask, item_at, one_item, at_path_end}
 use Rattle.leg_grammar.specs.Def.Wiring.{routing_at, past_taper, written_width_at, written_at, path_at}
 use Rattle.leg_output.specs.Text.Points.{spot_words}
 use Rattle.leg_output.specs.Text.Wires.{width_words, point_words, given_extension}
@@ -133,10 +136,16 @@ pub record IsViaName (scope : NetScopeModel) (layer : ℕ) (via : List ℕ) (num
   pub there : via_named scope via ≡ Some number
   pub leads : across scope number layer ≡ Some other
 
-module _ (scope : NetScopeModel) (special : Bool) (layer : ℕ) (name : List ℕ) (is_layer : IsPathLayer scope.library layer name) where
+module _ (scope : NetScopeModel) (narrow : scope.profile ≡ Narrow) (special : Bool) (layer : ℕ) (name : List ℕ)
+    (is_layer : IsPathLayer scope.library layer name) where
   layer_again : (rest : Words) → routing_at scope.library (name ∷ rest) ≡ Some (layer, rest)
   unfolding routing_at name_at next_at
   layer_again rest = rw (is_layer.named.is_one, is_layer.named.there, is_layer.routes) refl
+
+  -- an item that begins with a parenthesis is a point
+  point_item_is : (rest : Words) → item_at scope special (codes "(" ∷ rest) ≡ point_item (codes "(" ∷ rest)
+  unfolding item_at item_without_mask past_mask
+  point_item_is rest = rw narrow refl
 
   module _ (from to : PointModel) (width : ℤ) (is_from : IsPosition from) (is_to : IsPosition to) (straight : is_straight from to ≡ true) (long : from ≢ to)
       (is_width : IsWireWidth scope.library special layer width) where
@@ -147,12 +156,13 @@ module _ (scope : NetScopeModel) (special : Bool) (layer : ℕ) (name : List ℕ
               (unwrap_or next (default_extension scope.library (written_as special width) layer)) ∷ [],
           rest,
         )
-    unfolding path_at next_at steps one_item item_at point_item coordinate_at extension_in_point count_at mark_at wires_from extension_at segment_to
+    unfolding path_at next_at steps one_item point_item coordinate_at extension_in_point count_at mark_at wires_from extension_at segment_to
     segment_path first None rest is_first is_next ends =
         rw (
           layer_again _,
           written_again special width _ (width_written scope.library special layer width is_width),
           first_point_again from first _ is_from is_first,
+          point_item_is _,
           no_mark_number 42 refl (omega arith) to.x is_to.x,
           number_again to.x _ is_to.x,
           no_mark_number 42 refl (omega arith) to.y is_to.y,
@@ -167,6 +177,7 @@ module _ (scope : NetScopeModel) (special : Bool) (layer : ℕ) (name : List ℕ
           layer_again _,
           written_again special width _ (width_written scope.library special layer width is_width),
           first_point_again from first _ is_from is_first,
+          point_item_is _,
           no_mark_number 42 refl (omega arith) to.x is_to.x,
           number_again to.x _ is_to.x,
           no_mark_number 42 refl (omega arith) to.y is_to.y,
@@ -184,7 +195,7 @@ module _ (scope : NetScopeModel) (special : Bool) (layer : ℕ) (name : List ℕ
   pub via_path : (at : PointModel) (number other : ℕ) (via : List ℕ) (rest : Words) → IsPosition at → IsViaName scope layer via number other
       → at_path_end rest ≡ true → is_at (codes "N") rest ≡ false
       → path_at scope special (name ∷ (width_words special (pos 0) ++ (point_words at None ++ (via ∷ rest)))) ≡ Some (ViaAt number at ∷ [], rest)
-  unfolding path_at name_at next_at steps one_item item_at via_item past_north wires_from extension_at
+  unfolding path_at name_at next_at steps one_item item_at item_without_mask past_mask other_item via_item via_at past_north wires_from extension_at across
   via_path at number other via rest is names ends no_north =
       let no_new : is_keyword (codes "NEW") via ≡ false = first_is_none (λ word. is_keyword word via) (codes "NEW") (drop 1 wiring_words) names.free in
       let no_others = others_are_none (λ word. is_keyword word via) (codes "NEW") (drop 1 wiring_words) names.free in
@@ -193,6 +204,7 @@ module _ (scope : NetScopeModel) (special : Bool) (layer : ℕ) (name : List ℕ
         layer_again _,
         written_again special (pos 0) _ zero_written,
         first_point_again at None _ is tt,
+        narrow,
         no_new,
         no_mark_byte 43 refl via (name_is_word via names.named),
         no_mark 40 refl (omega arith) via names.named,
@@ -216,17 +228,18 @@ module _ (scope : NetScopeModel) (special : Bool) (layer : ℕ) (name : List ℕ
             least = omega (arith, ints)
 
 -- a rectangle, in NETS
-pub patch_path : (scope : NetScopeModel) (layer : ℕ) (name : List ℕ) (at : PointModel) (rect : RectModel) (rest : Words) → IsPathLayer scope.library layer name
-    → IsPosition at → IsArea rect → at_path_end rest ≡ true
+pub patch_path : (scope : NetScopeModel) → scope.profile ≡ Narrow → (layer : ℕ) (name : List ℕ) (at : PointModel) (rect : RectModel) (rest : Words)
+    → IsPathLayer scope.library layer name → IsPosition at → IsArea rect → at_path_end rest ≡ true
     → path_at scope false (name ∷ (spot_words at ++
     (codes "RECT" ∷ codes "(" ∷ signed_decimal rect.x1 ∷ signed_decimal rect.y1 ∷ signed_decimal rect.x2 ∷ signed_decimal rect.y2 ∷ codes ")" ∷ rest)))
     ≡ Some (Patch layer at rect ∷ [], rest)
-unfolding path_at keyword_at next_at steps one_item item_at rect_item mark_at wires_from extension_at
-patch_path scope layer name at rect rest is_layer is is_rect ends =
+unfolding path_at keyword_at next_at steps one_item item_at item_without_mask past_mask rect_item mark_at wires_from extension_at
+patch_path scope narrow layer name at rect rest is_layer is is_rect ends =
     rw (
-      layer_again scope false layer name is_layer _,
+      layer_again scope narrow false layer name is_layer _,
       written_again false (pos 0) _ tt,
       first_point_again at None _ is tt,
+      narrow,
       number_again rect.x1 _ is_rect.x1,
       number_again rect.y1 _ is_rect.y1,
       number_again rect.x2 _ is_rect.x2,

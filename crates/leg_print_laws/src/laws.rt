@@ -17,6 +17,7 @@ ghost use Rattle.leg_design_records.specs.declared.records.Component.{Component}
 ghost use Rattle.leg_design_records.specs.Records.{DesignModel, TrackModel, PinModel, BlockageModel, NetModel};
 ghost use Rattle.leg_design_records.specs.WellFormedParts.{IsArea, IsRow, IsTrack};
 ghost use Rattle.leg_design_records.specs.WellFormed.{IsWellFormed};
+ghost use Rattle.leg_grammar.specs.declared.profile.Profile.{Profile};
 ghost use Rattle.leg_grammar.specs.declared.profile.Profile.TheVariants.{Narrow};
 ghost use Rattle.leg_grammar.specs.Def.Die.{die_at};
 ghost use Rattle.leg_grammar.specs.Def.Row.{row_at};
@@ -46,20 +47,20 @@ ghost use Rattle.leg_print_laws.specs.PrintedNames.{StayOne, row_names, track_na
 use leg_design_records::Design;
 use std::alloc::Allocator;
 
-/// The printed text of a design denotes exactly this design, and the units of its library.
+/// The printed text of a design denotes exactly this design, in each profile, and the units of its library.
 pub fn printed_text_says_its_design()
-    ensures design { (design : DesignModel) → IsSound design.library → IsWellFormed design → StayOne (printed_names design)
-        → length (design_text design) ≤ TEXT_LIMIT → Denotes (design_in Narrow design.library) (design_text design) design }
+    ensures design { (profile : Profile) (design : DesignModel) → IsSound design.library → IsWellFormed design → StayOne (printed_names design)
+        → length (design_text design) ≤ TEXT_LIMIT → Denotes (design_in profile design.library) (design_text design) design }
     ensures units { (design : DesignModel) → IsSound design.library → IsWellFormed design → StayOne (printed_names design)
         → length (design_text design) ≤ TEXT_LIMIT → Denotes units_in (design_text design) design.library.units }
 {}
 
 /// The printed text of a design denotes no other design, so that what is read of it is printed as the same bytes again.
 pub fn printed_text_says_no_other()
-    ensures same { (design other : DesignModel) → IsSound design.library → IsWellFormed design → StayOne (printed_names design)
-        → length (design_text design) ≤ TEXT_LIMIT → Denotes (design_in Narrow design.library) (design_text design) other → other ≡ design }
-    ensures bytes { (design other : DesignModel) → IsSound design.library → IsWellFormed design → StayOne (printed_names design)
-        → length (design_text design) ≤ TEXT_LIMIT → Denotes (design_in Narrow design.library) (design_text design) other
+    ensures same { (profile : Profile) (design other : DesignModel) → IsSound design.library → IsWellFormed design → StayOne (printed_names design)
+        → length (design_text design) ≤ TEXT_LIMIT → Denotes (design_in profile design.library) (design_text design) other → other ≡ design }
+    ensures bytes { (profile : Profile) (design other : DesignModel) → IsSound design.library → IsWellFormed design → StayOne (printed_names design)
+        → length (design_text design) ≤ TEXT_LIMIT → Denotes (design_in profile design.library) (design_text design) other
         → design_text other ≡ design_text design }
 {
     leg_lex::laws::one_cut();
@@ -68,14 +69,14 @@ pub fn printed_text_says_no_other()
 /// The words of the printed text of a design denote exactly this design, whatever the text's length, if it has no more vias of its
 /// own than a number can be: their count is printed, and is read as a number.
 pub fn printed_words_say_their_design()
-    ensures { (design : DesignModel) → IsSound design.library → IsWellFormed design → StayOne (printed_names design)
-        → length design.vias ≤ NUMBER_LIMIT → WordsDenote (design_in Narrow design.library) (design_text design) design }
+    ensures { (profile : Profile) (design : DesignModel) → IsSound design.library → IsWellFormed design → StayOne (printed_names design)
+        → length design.vias ≤ NUMBER_LIMIT → WordsDenote (design_in profile design.library) (design_text design) design }
 {}
 
 /// The same of a design that the program has: it and its library are as the laws ask for, by their types.
 pub fn printed_design_is_read_again<A: Allocator + Copy>(design: &Design<'_, A>)
-    ensures { StayOne (printed_names design.now) → length (design_text design.now) ≤ TEXT_LIMIT
-        → Denotes (design_in Narrow design.now.library) (design_text design.now) design.now }
+    ensures { (profile : Profile) → StayOne (printed_names design.now) → length (design_text design.now) ≤ TEXT_LIMIT
+        → Denotes (design_in profile design.now.library) (design_text design.now) design.now }
 {
     let library = design.library();
     let _layers = library.layers();
@@ -134,14 +135,14 @@ pub fn row_line_is_read()
 /// The line of tracks denotes these tracks.
 pub fn track_line_is_read()
     ensures { (design : DesignModel) (track : TrackModel) → IsSound design.library → IsTrack design.library track
-        → StayOne (track_names design track) → DenotesForm (track_at design.library) (line (track_words design track)) track }
+        → StayOne (track_names design track) → DenotesForm (track_at Narrow design.library) (line (track_words design track)) track }
 {}
 
 /// The entry of a via denotes this via, after those before it.
 pub fn via_entry_is_read()
     ensures { (design : DesignModel) (before after : List ViaModel) (via : ViaModel) → IsSound design.library → IsWellFormed design
         → design.vias ≡ before ++ (via ∷ after) → StayOne (via_entry_names design via)
-        → DenotesForm (via_entry design.library before) (line (via_words design via)) (before ++ via ∷ []) }
+        → DenotesForm (via_entry Narrow design.library before) (line (via_words design via)) (before ++ via ∷ []) }
 {}
 
 /// The entry of a component denotes this component, after those before it.
@@ -155,14 +156,14 @@ pub fn component_entry_is_read()
 pub fn pin_entry_is_read()
     ensures { (design : DesignModel) (before after : List PinModel) (pin : PinModel) → IsSound design.library → IsWellFormed design
         → design.pins ≡ before ++ (pin ∷ after) → StayOne (pin_entry_names design pin)
-        → DenotesForm (pin_entry design.library before) (line (pin_words design pin)) (before ++ pin ∷ []) }
+        → DenotesForm (pin_entry (net_scope Narrow design) before) (line (pin_words design pin)) (before ++ pin ∷ []) }
 {}
 
 /// The entry of a blockage denotes this blockage, after those before it.
 pub fn blockage_entry_is_read()
     ensures { (design : DesignModel) (before after : List BlockageModel) (blockage : BlockageModel) → IsSound design.library → IsWellFormed design
         → design.blockages ≡ before ++ (blockage ∷ after) → StayOne (blockage_entry_names design blockage)
-        → DenotesForm (blockage_entry design.library before) (line (blockage_words design blockage)) (before ++ blockage ∷ []) }
+        → DenotesForm (blockage_entry Narrow design.library before) (line (blockage_words design blockage)) (before ++ blockage ∷ []) }
 {}
 
 /// The entry of a net denotes this net, with its terminals and its wires, after those before it: an entry of

@@ -1,8 +1,11 @@
 """Reads a DEF text as a design over a library."""
 from . import geometry
+from .figures import rect_segments
+from .generated_via import generated_shapes, is_generated
 from .lef_text import joined_layers
-from .model import Blockage, Component, Design, DesignPin, Net, Port, Row, Tracks, Via, numbers_of
-from .wiring_text import read_wiring
+from .model import Blockage, Component, Design, DesignPin, Net, PlacedVia, Port, Row, Tracks, Via, numbers_of
+from .profile import NARROW
+from .wiring_text import Scope, read_wiring
 from .words import Cursor, NotRead, words_of
 
 READ_PAST = ('VERSION', 'NAMESCASESENSITIVE', 'TECHNOLOGY', 'HISTORY', 'GCELLGRID')
@@ -17,17 +20,18 @@ def units_of(words):
     return cursor.whole_number()
 
 
-def read_design(words, library):
+def read_design(words, library, profile=NARROW):
     """Returns the design that these words of a DEF denote."""
-    return DefReader(words, library).read()
+    return DefReader(words, library, profile).read()
 
 
 class DefReader:
     """Reads one text; the numbers of what was named stand beside the lists."""
 
-    def __init__(self, words, library):
+    def __init__(self, words, library, profile):
         self.text = Cursor(words)
         self.library = library
+        self.profile = profile
         self.layers = numbers_of(library.layers)
         self.sites = numbers_of(library.sites)
         self.macros = numbers_of(library.macros)
@@ -35,6 +39,7 @@ class DefReader:
         self.vias = {via.name: via for via in library.vias}
         self.found = {'name': None, 'divider': None, 'bus_bits': None, 'units': units_of(words), 'die': None}
         self.rows, self.tracks, self.own_vias = [], [], []
+        self.sites_of_dropped_rows = set()
         self.components, self.component_numbers = [], {}
         self.pins, self.pin_numbers = [], {}
         self.blockages = []
@@ -52,7 +57,7 @@ class DefReader:
                 forms[word](word)
             elif word in words:
                 self.found[words[word]] = self.text.statement()[0]
-            elif word in READ_PAST or word == 'UNITS':
+            elif word in READ_PAST or word == 'UNITS' or word == 'COMPONENTMASKSHIFT' and self.profile.drops_masks:
                 self.text.statement()
             elif word in READ_PAST_BY_WORD:
                 self.text.skip_past('END', word)
@@ -61,6 +66,8 @@ class DefReader:
             else:
                 raise NotRead(f'there is no form {word}')
         self.text.expect('DESIGN')
+        if any(self.library.macros[it.macro].site in self.sites_of_dropped_rows for it in self.components):
+            raise NotRead('a row that is dropped is of the site of a component')
         self.append_pins()
         return Design(self.library, rows=self.rows, tracks=self.tracks, vias=self.own_vias, components=self.components, pins=self.pins,
                       blockages=self.blockages, special_nets=self.nets['SPECIALNETS'], nets=self.nets['NETS'], **self.found)
@@ -83,6 +90,13 @@ class DefReader:
             raise NotRead(f'{word} is no orientation')
         return word
 
+    def skip_mask(self):
+        """Goes past a mask if masks are dropped, and returns whether there was one."""
+        if not self.profile.drops_masks or not self.text.takes('MASK'):
+            return False
+        self.text.whole_number()
+        return True
+
     def skip_clause(self):
         """Goes to the next `+` or semicolon."""
         while self.text.peek() not in ('+', ';'):
@@ -100,9 +114,18 @@ class DefReader:
         name, site = self.text.next(), self.sites[self.text.next()]
         x, y = self.text.whole_number(), self.text.whole_number()
         orientation = self.orientation()
-        count = self.text.whole_number() if self.text.takes('DO') else 1
+        count = lines = 1
+        if self.text.takes('DO'):
+            count = self.text.whole_number()
+            self.text.expect('BY')
+            lines = self.text.whole_number()
         self.text.statement()
-        self.rows.append(Row(name, site, x, y, orientation, count))
+        if orientation in ('W', 'E', 'FW', 'FE') or lines != 1:
+            if not self.profile.wide or lines < 1:
+                raise NotRead('a row is turned or has several lines')
+            self.sites_of_dropped_rows.add(site)
+        else:
+            self.rows.append(Row(name, site, x, y, orientation, count))
 
     def read_tracks(self, _):
         """Reads tracks behind their first word."""
@@ -111,6 +134,8 @@ class DefReader:
         count = self.text.whole_number()
         self.text.expect('STEP')
         step = self.text.whole_number()
+        if self.skip_mask():
+            self.text.takes('SAMEMASK')
         layers = [self.layers[name] for name in self.text.statement()[1:]]
         self.tracks.append(Tracks(axis, start, count, step, tuple(layers)))
 
@@ -126,20 +151,30 @@ class DefReader:
 
     def read_via(self, _):
         """Reads an entry of VIAS behind its mark."""
-        name, shapes = self.text.next(), []
+        name = self.text.next()
+        if self.profile.wide and is_generated(self.text.words[self.text.at:self.text.words.index(';', self.text.at)]):
+            shapes = generated_shapes(self.text.statement(), self.layers)
+        else:
+            shapes = self.via_rectangles()
+        via = Via(name, tuple(shapes), False, joined_layers(self.library.layers, name, shapes))
+        self.own_vias.append(via)
+        self.vias[name] = via
+
+    def via_rectangles(self):
+        """Reads the clauses of a plain via, and returns its shapes."""
+        shapes = []
         while not self.text.takes(';'):
             self.text.expect('+')
             if self.text.takes('RECT'):
                 shapes += self.rectangle_on_layer()
             else:
                 self.skip_clause()
-        via = Via(name, tuple(shapes), False, joined_layers(self.library.layers, name, shapes))
-        self.own_vias.append(via)
-        self.vias[name] = via
+        return shapes
 
     def rectangle_on_layer(self):
         """Reads a layer and a rectangle, and returns it in a list, which is empty if the layer has no metal."""
         layer = self.layers[self.text.next()]
+        self.skip_mask()
         while self.text.peek() in ('SPACING', 'DESIGNRULEWIDTH'):
             self.text.next()
             self.text.whole_number()
@@ -171,7 +206,7 @@ class DefReader:
                 words[word] = self.text.next()
             elif word == 'PORT':
                 ports.append(Port((), None, None, None))
-            elif word == 'LAYER' or word in PLACES:
+            elif word == 'LAYER' or word in PLACES or word == 'VIA' and self.profile.wide:
                 last = ports.pop() if ports else Port((), None, None, None)
                 ports.append(self.continued_port(last, word))
             else:
@@ -183,26 +218,55 @@ class DefReader:
         """Returns the port with what the clause with this word adds."""
         if word == 'LAYER':
             return port._replace(shapes=port.shapes + tuple(self.rectangle_on_layer()))
+        if word == 'VIA':
+            return port._replace(shapes=port.shapes + tuple(self.via_shapes()))
         return port._replace(status=word, place=self.point(), orientation=self.orientation())
 
+    def via_shapes(self):
+        """Reads a good via and a point, and returns its shapes there."""
+        via = self.vias[self.text.next()]
+        if not via.joins:
+            raise NotRead(f'{via.name} is not good')
+        self.skip_mask()
+        by = self.point()
+        return [(layer, geometry.moved(rect, by)) for layer, rect in via.shapes]
+
     def read_blockage(self, _):
-        """Reads an entry of BLOCKAGES behind its mark, and leaves it out if its layer has no metal."""
+        """Reads an entry of BLOCKAGES behind its mark, and leaves it out if its layer has no metal, or if it is dropped."""
         layer = None
         if not self.text.takes('PLACEMENT'):
             self.text.expect('LAYER')
             layer = self.layers[self.text.next()]
-        while self.text.takes('+'):
-            self.text.expect('PUSHDOWN')
+        kept = [self.keeps_blockage(layer) for _ in iter(lambda: self.text.takes('+'), False)]
         rects = []
         while not rects or not self.text.takes(';'):
             self.text.expect('RECT')
             rects.append(self.rectangle())
-        if layer is None or self.library.layers[layer].has_metal():
+        if all(kept) and (layer is None or self.library.layers[layer].has_metal()):
             self.blockages.append(Blockage(layer, tuple(rects)))
+
+    def keeps_blockage(self, layer):
+        """Reads a clause of a blockage of this layer behind its mark, and returns whether the blockage is kept with it."""
+        profile, word = self.profile, self.text.keyword()
+        if word == 'COMPONENT' and profile.wide:
+            self.text.next()
+        elif word in ('SLOTS', 'FILLS') and profile.wide and layer is not None:
+            return False
+        elif word in ('SOFT', 'PARTIAL') and profile.soft and layer is None:
+            if word == 'PARTIAL':
+                self.text.next()
+            return profile.soft == 'hard'
+        elif word == 'MASK' and profile.drops_masks and layer is not None:
+            self.text.whole_number()
+        elif word != 'PUSHDOWN':
+            raise NotRead(f'a blockage has {word}')
+        return True
 
     def read_net(self, section):
         """Reads an entry of NETS or SPECIALNETS behind its mark."""
         name, terminals, use, wires = self.text.next(), {}, None, []
+        scope = Scope(self.library.layers, self.layers, self.vias, self.profile)
+        is_wide = self.profile.wide and section == 'SPECIALNETS'
         while self.text.takes('('):
             terminals.update(dict.fromkeys(self.read_terminals()))
         while not self.text.takes(';'):
@@ -213,10 +277,26 @@ class DefReader:
             elif word in ('ROUTED', 'FIXED', 'COVER', 'NOSHIELD', 'SHIELD'):
                 if word == 'SHIELD':
                     self.text.next()
-                wires += read_wiring(self.text, self.library.layers, self.layers, self.vias, section == 'SPECIALNETS')
+                if not (is_wide and self.text.peek() == '+'):
+                    wires += read_wiring(self.text, scope, section == 'SPECIALNETS')
+            elif word in ('RECT', 'VIA') and is_wide:
+                wires += self.read_figure(word)
             else:
                 self.skip_clause()
         self.nets[section].append(Net(name, tuple(terminals), use, tuple(wires)))
+
+    def read_figure(self, word):
+        """Reads a figure of a special net behind its word, RECT or VIA, and returns its wires."""
+        if word == 'RECT':
+            return rect_segments(self.layers[self.text.next()], self.rectangle())
+        via = self.vias[self.text.next()]
+        if not via.joins:
+            raise NotRead(f'{via.name} is not good')
+        self.text.takes('N')
+        points = [self.point()]
+        while self.text.peek() == '(':
+            points.append(self.point())
+        return [PlacedVia(via, point) for point in points]
 
     def read_terminals(self):
         """Reads a terminal behind its parenthesis, or in SPECIALNETS a pin of all components."""
@@ -245,8 +325,8 @@ class DefReader:
             self.nets[section][place] = net._replace(terminals=net.terminals + ((None, number),))
 
 
-def read_texts(lefs, text):
+def read_texts(lefs, text, profile=NARROW):
     """Returns the design of these LEF texts and this DEF text."""
     from .lef_text import read_library
     words = words_of(text)
-    return read_design(words, read_library(lefs, units_of(words)))
+    return read_design(words, read_library(lefs, units_of(words), profile), profile)

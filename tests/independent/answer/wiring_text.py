@@ -1,6 +1,9 @@
 """Reads the wiring of a net."""
+from typing import Dict, List, NamedTuple
+
 from . import geometry
-from .model import Patch, PlacedVia, Segment
+from .model import Layer, Patch, PlacedVia, Segment, Via
+from .profile import Profile
 from .words import NotRead
 
 
@@ -12,11 +15,19 @@ class Stop:
         self.extension = None
 
 
-def read_wiring(text, layers, numbers, vias, special):
-    """Reads paths joined by NEW, and returns their wires; numbers has the layers' by their names, and vias all vias by theirs."""
+class Scope(NamedTuple):
+    """What wiring names: the layers, with their numbers by their names, and all vias by theirs; and the profile."""
+    layers: List[Layer]
+    numbers: Dict[str, int]
+    vias: Dict[str, Via]
+    profile: Profile
+
+
+def read_wiring(text, scope, special):
+    """Reads paths joined by NEW, and returns their wires."""
     wires = []
     while True:
-        wires += Path(text, layers, numbers, vias, special).read()
+        wires += Path(text, scope, special).read()
         if not text.takes('NEW'):
             return wires
 
@@ -24,11 +35,9 @@ def read_wiring(text, layers, numbers, vias, special):
 class Path:
     """One path of a wiring."""
 
-    def __init__(self, text, layers, numbers, vias, special):
+    def __init__(self, text, scope, special):
         self.text = text
-        self.layers = layers
-        self.numbers = numbers
-        self.vias = vias
+        self.layers, self.numbers, self.vias, self.profile = scope
         self.special = special
         self.layer = self.width = self.stop = None
         # wires, but a segment as a list of its layer and its two stops, until all extensions are known
@@ -38,13 +47,21 @@ class Path:
         """Reads the path and returns its wires."""
         self.read_head()
         while self.text.peek() not in ('NEW', '+', ';'):
-            if self.text.peek() == '(':
-                self.read_point()
-            elif self.text.peek() == 'RECT':
-                self.read_patch()
-            else:
-                self.read_via()
+            self.read_item()
         return [self.segment(*wire) if isinstance(wire, list) else wire for wire in self.wires]
+
+    def read_item(self):
+        """Reads an item, with its mask if masks are dropped."""
+        if self.profile.drops_masks and self.text.takes('MASK'):
+            self.text.whole_number()
+        if self.text.peek() == '(':
+            self.read_point()
+        elif self.text.peek() == 'RECT' and not self.special:
+            self.read_patch()
+        elif self.text.peek() == 'VIRTUAL' and self.profile.wide and not self.special:
+            self.read_virtual()
+        else:
+            self.read_via()
 
     def read_head(self):
         """Reads the path up to its first point."""
@@ -78,6 +95,12 @@ class Path:
                 raise NotRead('a wire is diagonal')
             self.wires.append([self.layer, before, self.stop])
 
+    def read_virtual(self):
+        """Reads VIRTUAL and a point, from which the path goes on as from its first one."""
+        self.text.expect('VIRTUAL', '(')
+        self.stop = Stop((self.coordinate(self.stop.point[0]), self.coordinate(self.stop.point[1])))
+        self.text.expect(')')
+
     def read_patch(self):
         """Reads a rectangle relative to the last point."""
         self.text.expect('RECT', '(')
@@ -92,7 +115,19 @@ class Path:
             raise NotRead(f'{via.name} is not a via of this layer')
         self.layer = via.joins[0] + via.joins[1] - self.layer
         self.text.takes('N')
-        self.wires.append(PlacedVia(via, self.stop.point))
+        x, y = self.stop.point
+        self.wires += [PlacedVia(via, (x + across, y + up)) for across, up in self.read_steps()]
+
+    def read_steps(self):
+        """Reads the array of a via, if there is one, and returns where its vias are from the last point."""
+        if not self.profile.wide or not self.special or not self.text.takes('DO'):
+            return [(0, 0)]
+        columns = self.text.whole_number()
+        self.text.expect('BY')
+        rows = self.text.whole_number()
+        self.text.expect('STEP')
+        across, up = self.text.whole_number(), self.text.whole_number()
+        return [(column * across, row * up) for row in range(rows) for column in range(columns)]
 
     def segment(self, layer, start, end):
         """Returns the segment between two stops."""

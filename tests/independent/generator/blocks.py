@@ -2,6 +2,7 @@
 from typing import List, NamedTuple, Tuple
 
 from answer.model import Design
+from answer.profile import Profile
 from . import floorplan as plans
 from .blockages import blockages
 from .cells import cells
@@ -13,16 +14,20 @@ from .netlist import Netlist, design_pins
 from .placing import Placing, chosen_macros, widths_of_sites
 from .plan import plan_of
 from .technology import technology
+from .wide_def_writer import WideDefWriter
+from .wide_lef_writer import WideLefWriter
 from .wires import WireMaker, own_vias, thinned
 
 
 class Block(NamedTuple):
-    """A block, with the number that decides it, what it is for, and the commands that are asked of it."""
+    """A block, with the number that decides it, what it is for, the commands that are asked of it, and the profile and its options."""
     number: int
     family: str
     commands: Tuple[str, ...]
     lefs: List[str]
     text: str
+    profile: Profile
+    options: Tuple[str, ...]
 
 
 def block_of(number):
@@ -33,8 +38,18 @@ def block_of(number):
     design = design_to_finish(dice, plan, lambda: design_of(dice, plan, found.library))
     if plan.thin:
         design = thinned(dice, design)
-    lefs, text = LefWriter(dice, plan, found).texts(), DefWriter(dice, plan, design).text()
-    return Block(number, f'{plan.family} {plan.count}', plan.commands, lefs, text)
+    writers = (WideLefWriter, WideDefWriter) if plan.profile.wide else (LefWriter, DefWriter)
+    lefs, text = writers[0](dice, plan, found).texts(), writers[1](dice, plan, design).text()
+    family = f'wide, {plan.family}' if plan.profile.wide else plan.family
+    return Block(number, f'{family} {plan.count}', plan.commands, lefs, text, plan.profile, options_of(dice, plan.profile))
+
+
+def options_of(dice, profile):
+    """Returns the options of a profile, in any order."""
+    options = [['--wide']] if profile.wide else []
+    options += [['--masks', 'drop']] if profile.drops_masks else []
+    options += [['--soft', profile.soft]] if profile.soft else []
+    return tuple(word for option in (dice.shuffled(options) if profile.wide else []) for word in option)
 
 
 def design_of(dice, plan, library):

@@ -26,19 +26,23 @@ class DefWriter:
     def text(self):
         """Returns the whole text."""
         design, dice = self.design, self.dice
-        floorplan = [[self.row(row) for row in design.rows], [self.tracks(tracks) for tracks in design.tracks]]
-        parts = [self.section('VIAS', [self.via(via) for via in design.vias]),
+        floorplan = [self.rows(), [self.tracks(tracks) for tracks in design.tracks]]
+        parts = [self.section('VIAS', self.vias()),
                  self.section('COMPONENTS', [self.component(it) for it in design.components]),
                  self.section('PINS', [self.pin(it) for it in design.pins])]
         parts += [self.blockages()] if self.has_blockages else []
         both = [self.section('SPECIALNETS', [self.net(it, True) for it in design.special_nets]),
                 self.section('NETS', [self.net(it, False) for it in design.nets])]
         # (vias, components and pins stand before the nets, which name them)
-        parts = (dice.shuffled(parts) if dice.chance(self.odd) else parts) + (both[::-1] if dice.chance(self.odd) else both)
+        parts = (self.shuffled(parts) if dice.chance(self.odd) else parts) + (both[::-1] if dice.chance(self.odd) else both)
         for part in floorplan[::-1]:
             parts.insert(dice.below(len(parts) + 1) if dice.chance(self.odd) else 0, part)
         lines = [line for part in [self.head(), *parts, ['END DESIGN']] for line in part]
         return respaced(dice, self.odd, ''.join(line + '\n' for line in lines))
+
+    def shuffled(self, parts):
+        """Returns the sections before the nets in another order."""
+        return self.dice.shuffled(parts)
 
     def head(self):
         """Returns the lines before the rows."""
@@ -90,6 +94,10 @@ class DefWriter:
         """Returns the lines of a section; the number is not that of the entries, which nobody compares."""
         return [f'{word} {len(entries) or 7} ;', *entries, f'END {word}'] if entries else []
 
+    def rows(self):
+        """Returns the lines of rows."""
+        return [self.row(row) for row in self.design.rows]
+
     def row(self, row):
         site = self.design.library.sites[row.site]
         words = f'ROW {row.name} {site.name} {self.number(row.x)} {self.number(row.y)} {self.key(row.orientation)}'
@@ -101,7 +109,15 @@ class DefWriter:
     def tracks(self, tracks):
         layers = ''.join(f' {self.layers[number].name}' for number in tracks.layers)
         layers = f' {self.key("LAYER")}{layers}' if layers else ''
-        return f'TRACKS {tracks.axis} {self.number(tracks.start)} DO {tracks.count} STEP {tracks.step}{layers} ;'
+        return f'TRACKS {tracks.axis} {self.number(tracks.start)} DO {tracks.count} STEP {tracks.step}{self.mask(" SAMEMASK")}{layers} ;'
+
+    def mask(self, *more):
+        """Returns a mask behind a blank, where one has no effect; more has what may stand behind it."""
+        return ''
+
+    def vias(self):
+        """Returns the entries of VIAS."""
+        return [self.via(via) for via in self.design.vias]
 
     def via(self, via):
         return f'- {via.name} ' + ' '.join(f'+ RECT {self.layers[layer].name} {self.corners(rect)}' for layer, rect in via.shapes) + ' ;'
@@ -134,7 +150,7 @@ class DefWriter:
     def port_shape(self, layer, rect):
         """Returns the clause of a shape of a port."""
         middle = self.dice.one_of((' SPACING 3', ' DESIGNRULEWIDTH 4')) if self.dice.chance(self.odd) else ''
-        return f'+ {self.key("LAYER")} {self.layers[layer].name}{middle} {self.corners(rect)}'
+        return f'+ {self.key("LAYER")} {self.layers[layer].name}{self.mask()}{middle} {self.corners(rect)}'
 
     def blockages(self):
         """Returns the section BLOCKAGES, with entries on layers without metal in some cases."""
@@ -151,13 +167,21 @@ class DefWriter:
         """Returns an entry of BLOCKAGES."""
         words = self.key('PLACEMENT') if blockage.layer is None else f'{self.key("LAYER")} {self.layers[blockage.layer].name}'
         pushed = [f'+ {self.key("PUSHDOWN")}' for _ in range(self.dice.between(1, 2) if self.dice.chance(0.2) else 0)]
-        return ' '.join(['-', words, *pushed, *(f'{self.key("RECT")} {self.corners(rect)}' for rect in blockage.rects), ';'])
+        return ' '.join(['-', words, *self.with_other_clauses(pushed, blockage), *(f'{self.key("RECT")} {self.corners(rect)}' for rect in blockage.rects), ';'])
+
+    def with_other_clauses(self, clauses, blockage):
+        """Returns the clauses of a blockage, with others that it may have."""
+        return clauses
+
+    def path_writer(self, special):
+        """Returns what writes wires."""
+        return PathWriter(self.dice, self.layers, special, self.number, self.joins)
 
     def net(self, net, special):
         """Returns an entry of NETS or SPECIALNETS."""
         clauses = [f'+ USE {net.use}'] if net.use else []
         clauses = self.dice.shuffled(clauses + self.odd_forms(NET_CLAUSES))
-        writer = PathWriter(self.dice, self.layers, special, self.number, self.joins)
+        writer = self.path_writer(special)
         terminals = self.starred(net) if special and self.stars else self.terminals(net, special)
         wires = writer.text(net.wires)
         parts = [*clauses, wires] if self.dice.chance(0.8) else [wires, *clauses]

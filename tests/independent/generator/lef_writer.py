@@ -34,7 +34,7 @@ class LefWriter:
         vias = [self.via(it) for it in self.library.vias]
         parts += vias + self.odd_vias if self.dice.chance(0.5) else self.odd_vias + vias
         parts += [self.site(it) for it in self.library.sites]
-        parts += [self.macro(it) for it in self.library.macros]
+        parts += self.macros()
         cuts = sorted(self.dice.below(len(parts) + 1) for _ in range(self.dice.below(3) if self.odd else 0))
         groups = [parts[begin:end] for begin, end in zip([0] + cuts, cuts + [len(parts)])]
         return [self.text(group) for group in groups]
@@ -72,7 +72,11 @@ class LefWriter:
         pair = self.dice.one_of((((left, lower), (right, upper)), ((right, upper), (left, lower)), ((left, upper), (right, lower)))) \
             if self.dice.chance(self.odd) else ((left, lower), (right, upper))
         assert between(*pair) == rect
-        return f'{self.key("RECT")} {self.point(pair[0])} {self.point(pair[1])} ;'
+        return self.rect_statement(*map(self.point, pair))
+
+    def rect_statement(self, *points):
+        """Returns a rectangle's statement with these words of its points."""
+        return ' '.join([self.key('RECT'), *points, ';'])
 
     def shapes(self, shapes, more=('',)):
         """Returns the statements of shapes: a layer where it changes, or before each of them, with some more words behind its name."""
@@ -86,8 +90,12 @@ class LefWriter:
 
     def geometry(self, shapes):
         """Returns a geometry of these shapes, with forms in it that are read past."""
-        more = ('', '', ' SPACING 0.2', ' DESIGNRULEWIDTH 1') if self.odd else ('',)
+        more = self.words_behind_layers()
         return ' '.join([self.shapes(shapes, more), *self.odd_forms(SHAPE_FORMS)])
+
+    def words_behind_layers(self):
+        """Returns what may stand behind the name of a layer in a geometry, each behind a blank."""
+        return ('', '', ' SPACING 0.2', ' DESIGNRULEWIDTH 1') if self.odd else ('',)
 
     def layer(self, layer):
         words = [f'TYPE {self.key(layer.kind)} ;', *self.odd_forms(LAYER_FORMS)]
@@ -116,6 +124,10 @@ class LefWriter:
     def site(self, site):
         words = [self.size(site.width, site.height), 'CLASS CORE ;']
         return f'SITE {site.name} {" ".join(self.dice.shuffled(words))} END {site.name}\n'
+
+    def macros(self):
+        """Returns the macros."""
+        return [self.macro(it) for it in self.library.macros]
 
     def macro(self, macro):
         """Returns a macro; its shapes are written from its ORIGIN."""

@@ -74,11 +74,15 @@ class PathWriter:
             if not chains or not self.dice.chance(self.joins) or not chains[-1].takes(wire):
                 chains.append(Chain(self.layers, self.special))
                 chains[-1].takes(wire)
+        return ''.join(f'\n  {it}' for it in self.clauses(chains))
+
+    def clauses(self, chains):
+        """Returns the words of chains of wires, each in a line of its own."""
         words = []
         for place, chain in enumerate(chains):
             begins = not place or self.dice.chance(self.joins / 8)
             words.append((f'+ {self.beginning()} ' if begins else 'NEW ') + self.path(chain))
-        return ''.join(f'\n  {it}' for it in words)
+        return words
 
     def beginning(self):
         """Returns the word of a wiring."""
@@ -92,17 +96,24 @@ class PathWriter:
             words += ['+ SHAPE STRIPE'] if self.joins and self.dice.chance(0.3) else []
         elif self.joins and self.dice.chance(0.05):
             words.append('TAPER')
-        words += self.stop(chain, 0, None)
-        at = 0
+        return ' '.join([*words, *self.stop(chain, 0, None), *self.items(chain)])
+
+    def items(self, chain):
+        """Returns the words of a path behind its first point."""
+        words, at = [], 0
         for wire in chain.wires:
             if isinstance(wire, Segment):
                 at += 1
-                words += self.stop(chain, at, chain.stops[at - 1][0])
+                words += self.masked(self.stop(chain, at, chain.stops[at - 1][0]))
             elif isinstance(wire, PlacedVia):
-                words += [wire.via.name] + (['N'] if self.joins and self.dice.chance(0.1) else [])
+                words += self.masked([wire.via.name] + (['N'] if self.joins and self.dice.chance(0.1) else []))
             else:
-                words += ['RECT (', *map(self.number, wire.rect), ')']
-        return ' '.join(words)
+                words += self.masked(['RECT (', *map(self.number, wire.rect), ')'])
+        return words
+
+    def masked(self, words):
+        """Returns the words of an item, with a mask before them where one has no effect."""
+        return words
 
     def stop(self, chain, at, last):
         """Returns the words of a stop: its point, in some cases twice."""

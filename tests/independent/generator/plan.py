@@ -1,4 +1,5 @@
 """What a block is to have, by its number: a family, a count that the family goes through, small or large, and the other sizes."""
+from answer.profile import NARROW, Profile
 from .dice import Dice
 
 FAMILIES = ('components', 'rows', 'wires', 'nets', 'terminals', 'routed nets', 'walks', 'pins of the design', 'rectangles',
@@ -17,6 +18,8 @@ LARGE_EVERY = 50
 LARGE = ('components', 'metal', 'routes')
 # Blocks from this number on have blockages; the block of this number and n has the family and the count of block n.
 WITH_BLOCKAGES = 1000000
+# Blocks from this number on have blockages too, and are in the wide profile.
+IS_WIDE = 2000000
 LARGE_COMMANDS = {'components': NOT_ROUTED, 'metal': NOT_ROUTED, 'routes': ('check', 'measure', 'route', 'flow', 'finish')}
 
 
@@ -62,6 +65,7 @@ class Plan:
         self.legal = dice.chance(0.5)
         self.thin = self.corners = False
         self.has_blockages, self.blockages, self.layer_blockages = False, 0, 0.0
+        self.profile = NARROW
         self.rails = dice.chance(0.4)
         self.sound = dice.chance(0.5)
         self.odd_names = dice.chance(0.15)
@@ -81,6 +85,11 @@ class Plan:
         self.sites = dice.between(1, 2)
         self.obstructions = dice.below(2)
 
+    def widen(self, dice):
+        """Puts it into the wide profile, with options or without; so it is in a technology in which wide forms have a place."""
+        self.profile = Profile(True, dice.chance(0.6), dice.one_of((None, 'drop', 'hard')))
+        self.routing_layers = max(2, self.routing_layers)
+
     def block(self, dice):
         """Gives it blockages, and room for components beside them."""
         self.has_blockages = True
@@ -95,6 +104,8 @@ def plan_of(number):
     plan = plan_by_turn(number % WITH_BLOCKAGES, dice)
     if number >= WITH_BLOCKAGES:
         plan.block(dice)
+    if number >= IS_WIDE:
+        plan.widen(dice)
     return plan, dice
 
 

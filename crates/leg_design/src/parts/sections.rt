@@ -26,7 +26,7 @@ impl<'a, A: Allocator + Copy> Parts<'a, A> {
         ensures { Reads (λ _. self.new) result words.new (vias_form self.old words.old) }
     {
         once(self.has.vias, words)?;
-        let vias = vias(alloc, self.library, words)?;
+        let vias = vias(alloc, self.profile, self.library, words)?;
         drop(replace(&mut self.vias, vias));
         self.has.vias = true;
         Ok(())
@@ -58,7 +58,7 @@ impl<'a, A: Allocator + Copy> Parts<'a, A> {
         ensures { Reads (λ _. self.new) result words.new (pins_form self.old words.old) }
     {
         once(self.has.pins, words)?;
-        let pins = pins(alloc, self.library, words)?;
+        let pins = pins(alloc, &self.net_scope(), words)?;
         drop(replace(&mut self.pins, pins));
         self.has.pins = true;
         Ok(())
@@ -74,7 +74,7 @@ impl<'a, A: Allocator + Copy> Parts<'a, A> {
         ensures { Reads (λ _. self.new) result words.new (blockages_form self.old words.old) }
     {
         once(self.has.blockages, words)?;
-        let blockages = blockages(alloc, self.library, words)?;
+        let blockages = blockages(alloc, self.profile, self.library, words)?;
         drop(replace(&mut self.blockages, blockages));
         self.has.blockages = true;
         Ok(())
@@ -112,7 +112,7 @@ impl<'a, A: Allocator + Copy> Parts<'a, A> {
         Ok(())
     }
 
-    // What nets name parts of.
+    // What pins and nets name parts of.
     fn net_scope<'k>(&'k self) -> NetScope<'k, 'a, A>
         ensures { result ≡ net_scope self.now.profile self.now.design }
     {

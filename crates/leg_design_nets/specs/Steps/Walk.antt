@@ -1,13 +1,15 @@
 -- A path that is followed item by item: what the definitions of paths state, one item at a time.
-use Rattle.std.specs.Prelude.{ℕ, ℤ, Bool, if◌then◌else◌, List, [], ◌∷◌, ◌++◌, Option, Some, option_map}
+use Rattle.std.specs.Prelude.{ℕ, ℤ, Bool, if◌then◌else◌, List, [], ◌∷◌, ◌++◌, Option, None, Some, option_map}
 use Rattle.leg_lex.specs.Words.{Words, ◌>>=◌}
 use Rattle.leg_geom.specs.Plane.{PointModel}
 use Rattle.leg_grammar.specs.declared.path_item.Item.{Item}
-use Rattle.leg_grammar.specs.declared.path_item.Item.TheVariants.{ToPoint, AtVia, AtRect}
+use Rattle.leg_grammar.specs.declared.path_item.Item.TheVariants.{ToPoint, ToVirtual, AtVia, AtArray, AtRect}
+use Rattle.leg_grammar.specs.declared.via_array.ViaArray.{ViaArray}
 use Rattle.leg_design_records.specs.declared.records.Wire.{Wire}
 use Rattle.leg_design_records.specs.declared.records.Wire.TheVariants.{ViaAt, Patch}
 use Rattle.leg_grammar.specs.Def.NetScope.{NetScopeModel}
 use Rattle.leg_grammar.specs.Def.Path.{next_spot, is_same_spot, extension_at, segment_to, across, wires_from}
+use Rattle.leg_grammar.specs.Def.ViaArray.{array_vias}
 use Rattle.leg_grammar.specs.Def.Wiring.{path_at}
 
 -- where a path is after some of its items: its layer, its point with the extension there, and its wires so far
@@ -32,14 +34,24 @@ walked_to scope written to extension walk = do
   segment ← segment_to scope.library written walk.layer walk.at walk.extension to extension
   Some (record { layer = walk.layer; at = to; extension = extension; wires = walk.wires ++ segment ∷ [] })
 
+-- after an array of a via
+unfoldable pub walked_past_array : NetScopeModel → ℕ → ViaArray → PathState → Option PathState
+walked_past_array scope via array walk = do
+  other ← across scope via walk.layer
+  wires ← behind walk.wires (array_vias via array walk.at)
+  Some (record walk { layer = other; wires = wires })
+
 -- after one more item, before these
 unfoldable pub walked_past : NetScopeModel → Option ℤ → Item → List Item → PathState → Option PathState
 walked_past scope written (ToPoint x y given) later walk =
     if is_same_spot walk.at (next_spot walk.at x y) then Some walk
     else walked_to scope written (next_spot walk.at x y) (extension_at (next_spot walk.at x y) given later) walk
+walked_past scope written (ToVirtual x y) later walk =
+    Some (record walk { at = next_spot walk.at x y; extension = extension_at (next_spot walk.at x y) None later })
 walked_past scope written (AtVia via) later walk = do
   other ← across scope via walk.layer
   Some (record walk { layer = other; wires = walk.wires ++ ViaAt via walk.at ∷ [] })
+walked_past scope written (AtArray via array) later walk = walked_past_array scope via array walk
 walked_past scope written (AtRect rect) later walk =
     Some (record walk { wires = walk.wires ++ Patch walk.layer walk.at rect ∷ [] })
 

@@ -4,10 +4,12 @@ use Rattle.leg_lex.specs.Words.{Words, ◌>>=◌, is_at, keyword_at, mark_at}
 use Rattle.leg_lex.specs.Until.{until}
 use Rattle.leg_geom.specs.Plane.{RectModel}
 use Rattle.leg_lib_records.specs.Records.{LibraryModel}
+use Rattle.leg_grammar.specs.declared.profile.Profile.{Profile}
 use Rattle.leg_grammar.specs.Def.Guard.{when}
 use Rattle.leg_grammar.specs.Def.Placement.{rect_at}
 use Rattle.leg_grammar.specs.Def.Layers.{layer_named_at}
 use Rattle.leg_grammar.specs.Def.Section.{section_at}
+use Rattle.leg_grammar.specs.Def.BlockageClause.{blockage_clause}
 use Rattle.leg_design_records.specs.declared.limits.TheConstants.{ENTRY_LIMIT, PART_LIMIT}
 use Rattle.leg_design_records.specs.Layers.{has_metal}
 use Rattle.leg_design_records.specs.Records.{BlockageModel, rect_count}
@@ -17,12 +19,6 @@ unfoldable pub blocked_layer_at : LibraryModel → Words → Option (Option ℕ 
 blocked_layer_at library words =
     if is_at (codes "PLACEMENT") words then (keyword_at (codes "PLACEMENT") words >>= λ start. Some (None, start.1))
     else (keyword_at (codes "LAYER") words >>= λ start. layer_named_at library start.1 >>= λ layer. Some (Some layer.0, layer.1))
-
--- + PUSHDOWN, which is read past (43 is the plus)
-unfoldable pub push_down : Unit {0} → Words → Option (Unit {0} × Words)
-push_down before words = do
-  plus ← mark_at 43 words
-  keyword_at (codes "PUSHDOWN") plus.1
 
 abbrev pub at_no_plus : Words → Bool
 at_no_plus words = not (is_at (codes "+") words)
@@ -45,14 +41,14 @@ rects_at words = do
   end ← mark_at 59 rects.1
   Some (rects.0, end.1)
 
--- - LAYER NAME or - PLACEMENT, any + PUSHDOWN, and rectangles (45 is the dash)
-unfoldable pub blockage_at : LibraryModel → Words → Option (BlockageModel × Words)
-blockage_at library words = do
+-- - LAYER NAME or - PLACEMENT, any clauses, and rectangles (45 is the dash): the blockage, and whether its clauses keep it
+unfoldable pub blockage_at : Profile → LibraryModel → Words → Option ((BlockageModel × Bool) × Words)
+blockage_at profile library words = do
   dash ← mark_at 45 words
   layer ← blocked_layer_at library dash.1
-  past ← until at_no_plus push_down tt layer.1
-  rects ← rects_at past.1
-  Some (record { layer = layer.0; rects = rects.0 }, rects.1)
+  kept ← until at_no_plus (blockage_clause profile layer.0) true layer.1
+  rects ← rects_at kept.1
+  Some ((record { layer = layer.0; rects = rects.0 }, kept.0), rects.1)
 
 -- a blockage on a layer without metal is left out
 abbrev pub is_kept : LibraryModel → Option ℕ → Bool
@@ -65,12 +61,12 @@ is_room_for blockage blockages =
     nat_lt (length blockages) ENTRY_LIMIT && nat_le (rect_count blockages + length blockage.rects) PART_LIMIT
 
 -- one more entry
-unfoldable pub blockage_entry : LibraryModel → List BlockageModel → Words → Option (List BlockageModel × Words)
-blockage_entry library blockages words = do
-  blockage ← blockage_at library words
-  if is_kept library blockage.0.layer then (when (is_room_for blockage.0 blockages) >>= λ room. Some (blockages ++ blockage.0 ∷ [], blockage.1))
-      else Some (blockages, blockage.1)
+unfoldable pub blockage_entry : Profile → LibraryModel → List BlockageModel → Words → Option (List BlockageModel × Words)
+blockage_entry profile library blockages words = do
+  said ← blockage_at profile library words
+  if said.0.1 && is_kept library said.0.0.layer then (when (is_room_for said.0.0 blockages) >>= λ room. Some (blockages ++ said.0.0 ∷ [], said.1))
+      else Some (blockages, said.1)
 
 -- BLOCKAGES number ; entries END BLOCKAGES
-unfoldable pub blockages_at : LibraryModel → Words → Option (List BlockageModel × Words)
-blockages_at library words = section_at (codes "BLOCKAGES") (blockage_entry library) [] words
+unfoldable pub blockages_at : Profile → LibraryModel → Words → Option (List BlockageModel × Words)
+blockages_at profile library words = section_at (codes "BLOCKAGES") (blockage_entry profile library) [] words

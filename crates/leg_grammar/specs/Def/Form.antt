@@ -1,5 +1,6 @@
 -- The forms of a DEF text, and the design that they denote (LEF/DEF 5.8, "DEF Syntax").
 use Rattle.std.specs.Prelude.{◌+◌, nat_lt, ◌&&◌, if◌then◌else◌, Option, Some, codes}
+use Rattle.std.specs.List.{list_any}
 use Rattle.leg_lex.specs.Words.{Words, ◌>>=◌, is_at, end_at, nothing_at}
 use Rattle.leg_lex.specs.Until.{until}
 use Rattle.leg_lex.specs.Statements.{at_end}
@@ -7,6 +8,7 @@ use Rattle.leg_lib_records.specs.Records.{LibraryModel}
 use Rattle.leg_design_records.specs.declared.limits.TheConstants.{PART_LIMIT}
 use Rattle.leg_grammar.specs.declared.profile.Profile.{Profile}
 use Rattle.leg_grammar.specs.Def.Guard.{when, unless}
+use Rattle.leg_grammar.specs.Def.DroppedRow.{have_site}
 use Rattle.leg_grammar.specs.Def.LonePins.{NetLists, with_lone_pins}
 use Rattle.leg_design_records.specs.Records.{DesignModel, terminal_count}
 use Rattle.leg_grammar.specs.Def.Parts.{DesignParts, no_parts, divider_form, bus_form, name_form, units_form, die_form, row_form, track_form, vias_form, components_form, pins_form, blockages_form, nets_form, special_form}
@@ -22,7 +24,7 @@ header_form parts words =
     else (if is_at (codes "DIEAREA") words then die_form parts words
     else (if is_at (codes "ROW") words then row_form parts words
     else (if is_at (codes "TRACKS") words then track_form parts words
-    else (past_def_form words >>= λ form. Some (parts, form.1))))))))
+    else (past_def_form parts.profile words >>= λ form. Some (parts, form.1))))))))
 
 -- one form
 unfoldable pub def_form_at : DesignParts → Words → Option (DesignParts × Words)
@@ -42,10 +44,12 @@ all_nets design = with_lone_pins (record { nets = design.nets; special = design.
 abbrev pub with_all_nets : DesignModel → DesignModel
 with_all_nets design = record design { nets = (all_nets design).nets; special = (all_nets design).special }
 
--- DESIGN, UNITS and DIEAREA have appeared, and with the lone pins too there aren't too many terminals
+-- DESIGN, UNITS and DIEAREA have appeared, no component's macro has the site of a dropped row, and with the lone pins too there aren't too
+-- many terminals
 unfoldable pub design_of : DesignParts → Option DesignModel
 design_of parts = do
   there ← when (parts.has.name && parts.has.units && parts.has.die)
+  sites ← unless (list_any (have_site parts.design.library parts.design.components) parts.dropped)
   few ← unless (nat_lt PART_LIMIT (terminal_count (all_nets parts.design).nets + terminal_count (all_nets parts.design).special))
   Some (with_all_nets parts.design)
 

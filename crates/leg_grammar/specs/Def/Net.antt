@@ -11,6 +11,7 @@ use Rattle.leg_grammar.specs.Def.Guard.{unless, is_over}
 use Rattle.leg_grammar.specs.Def.NetScope.{NetScopeModel}
 use Rattle.leg_grammar.specs.Def.Terminal.{terminal_form, at_no_terminal}
 use Rattle.leg_grammar.specs.Def.Wiring.{is_wiring, wiring_at}
+use Rattle.leg_grammar.specs.Def.SpecialShape.{shape_at}
 use Rattle.leg_grammar.specs.Def.Section.{section_at}
 use Rattle.leg_design_records.specs.Records.{NetModel, net_names, terminal_count, wire_count}
 use Rattle.leg_design_records.specs.Names.{net_section}
@@ -50,6 +51,12 @@ wiring_clause scope special parts clause = do
   wires ← wiring_at scope special clause
   Some (record parts { wires = parts.wires ++ wires.0 }, wires.1)
 
+-- a clause that would change a shape or a rule, where the profile reads it: the wires of its shapes
+unfoldable pub shape_clause : NetScopeModel → Bool → NetParts → Words → Option (NetParts × Words)
+shape_clause scope special parts clause = do
+  wires ← shape_at scope.profile scope special clause
+  Some (record parts { wires = parts.wires ++ wires.0 }, wires.1)
+
 -- the words from the next `+` on
 unfoldable pub from_plus : Words → Words
 from_plus [] = []
@@ -66,7 +73,7 @@ unfoldable pub clause_at : NetScopeModel → Bool → NetParts → Words → Opt
 clause_at scope special parts clause =
     if is_at (codes "USE") clause then use_clause parts clause
     else (if is_wiring special clause then wiring_clause scope special parts clause
-    else (if is_left_out special clause then None else past_clause parts clause))
+    else (if is_left_out special clause then shape_clause scope special parts clause else past_clause parts clause))
 
 -- one more clause (43 is the plus)
 unfoldable pub net_clause : NetScopeModel → Bool → NetParts → Words → Option (NetParts × Words)

@@ -1,14 +1,17 @@
 -- What the forms of a DEF text gave so far, and how each form adds to it (LEF/DEF 5.8, "DEF Syntax").
-use Rattle.std.specs.Prelude.{pos, Bool, true, false, ◌==◌, [], ◌∷◌, ◌++◌, Option, None, Some, is_some, codes}
+use Rattle.std.specs.Option.{option_or}
+use Rattle.std.specs.Prelude.{ℕ, pos, Bool, true, false, ◌==◌, List, [], ◌∷◌, ◌++◌, Option, None, Some, is_some, codes}
 use Rattle.leg_lex.specs.Words.{Words, ◌>>=◌}
 use Rattle.leg_geom.specs.Plane.{RectModel}
 use Rattle.leg_lib_records.specs.Records.{LibraryModel}
 use Rattle.leg_grammar.specs.declared.profile.Profile.{Profile}
+use Rattle.leg_grammar.specs.declared.profile.Profile.TheVariants.{Narrow, Wide}
 use Rattle.leg_grammar.specs.Def.Guard.{when, unless}
 use Rattle.leg_grammar.specs.Def.NetScope.{NetScopeModel}
 use Rattle.leg_grammar.specs.Def.Header.{word_after, design_name_at, units_at}
 use Rattle.leg_grammar.specs.Def.Die.{die_at}
 use Rattle.leg_grammar.specs.Def.Row.{row_at}
+use Rattle.leg_grammar.specs.Def.DroppedRow.{dropped_row_at, with_site}
 use Rattle.leg_grammar.specs.Def.Track.{track_at}
 use Rattle.leg_grammar.specs.Def.Via.{vias_at}
 use Rattle.leg_grammar.specs.Def.Component.{components_at}
@@ -31,11 +34,12 @@ pub record Appearances : Type 0 where
   pub special : Bool
 
 -- What the forms before gave: a design, whose name is empty until DESIGN has appeared, and its die area a point until DIEAREA has. The
--- profile in which they are read stays the same.
+-- profile in which they are read stays the same. In the wide profile, the sites of rows that were dropped.
 pub record DesignParts : Type 0 where
   pub profile : Profile
   pub has : Appearances
   pub design : DesignModel
+  pub dropped : List ℕ
 
 -- the point 0 0
 abbrev pub no_die : RectModel
@@ -61,9 +65,10 @@ no_parts profile library = record {
     nets = [];
     special = [];
   };
+  dropped = [];
 }
 
--- what nets may name
+-- what pins and nets may name
 abbrev pub net_scope : Profile → DesignModel → NetScopeModel
 net_scope profile design = record { profile = profile; library = design.library; vias = design.vias; components = design.components; pins = design.pins }
 
@@ -103,21 +108,32 @@ die_form parts words = do
   die ← die_at words
   Some (record parts { has = record (parts.has) { die = true }; design = record (parts.design) { die = die.0 } }, die.1)
 
-unfoldable pub row_form : DesignParts → Words → Option (DesignParts × Words)
-row_form parts words = do
+unfoldable pub kept_row_form : DesignParts → Words → Option (DesignParts × Words)
+kept_row_form parts words = do
   row ← row_at parts.design.library words
   Some (record parts { design = record (parts.design) { rows = parts.design.rows ++ row.0 ∷ [] } }, row.1)
 
+-- a row that is dropped, in the wide profile alone
+unfoldable pub dropped_row_form : Profile → DesignParts → Words → Option (DesignParts × Words)
+dropped_row_form Narrow parts words = None
+dropped_row_form (Wide masks soft) parts words = do
+  site ← dropped_row_at parts.design.library words
+  Some (record parts { dropped = with_site site.0 parts.dropped }, site.1)
+
+-- a row, or one that is dropped
+unfoldable pub row_form : DesignParts → Words → Option (DesignParts × Words)
+row_form parts words = option_or (kept_row_form parts words) (dropped_row_form parts.profile parts words)
+
 unfoldable pub track_form : DesignParts → Words → Option (DesignParts × Words)
 track_form parts words = do
-  track ← track_at parts.design.library words
+  track ← track_at parts.profile parts.design.library words
   Some (record parts { design = record (parts.design) { tracks = parts.design.tracks ++ track.0 ∷ [] } }, track.1)
 
 -- each section appears at most once
 unfoldable pub vias_form : DesignParts → Words → Option (DesignParts × Words)
 vias_form parts words = do
   once ← unless parts.has.vias
-  vias ← vias_at parts.design.library words
+  vias ← vias_at parts.profile parts.design.library words
   Some (record parts { has = record (parts.has) { vias = true }; design = record (parts.design) { vias = vias.0 } }, vias.1)
 
 unfoldable pub components_form : DesignParts → Words → Option (DesignParts × Words)
@@ -129,13 +145,13 @@ components_form parts words = do
 unfoldable pub pins_form : DesignParts → Words → Option (DesignParts × Words)
 pins_form parts words = do
   once ← unless parts.has.pins
-  pins ← pins_at parts.design.library words
+  pins ← pins_at (net_scope parts.profile parts.design) words
   Some (record parts { has = record (parts.has) { pins = true }; design = record (parts.design) { pins = pins.0 } }, pins.1)
 
 unfoldable pub blockages_form : DesignParts → Words → Option (DesignParts × Words)
 blockages_form parts words = do
   once ← unless parts.has.blockages
-  blockages ← blockages_at parts.design.library words
+  blockages ← blockages_at parts.profile parts.design.library words
   Some (record parts { has = record (parts.has) { blockages = true }; design = record (parts.design) { blockages = blockages.0 } }, blockages.1)
 
 unfoldable pub nets_form : DesignParts → Words → Option (DesignParts × Words)

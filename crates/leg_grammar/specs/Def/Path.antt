@@ -1,6 +1,6 @@
 -- The wires that a path denotes (LEF/DEF 5.8, "Regular Wiring Statement", "Special Wiring Statement"; which extension
 -- holds, and which vias and widths are taken, are lefdef's own rules).
-use Rattle.std.specs.Prelude.{ℕ, ℤ, pos, Bool, not, ◌&&◌, ◌==◌, if◌then◌else◌, List, [], ◌∷◌, Option, None, Some, unwrap_or}
+use Rattle.std.specs.Prelude.{ℕ, ℤ, pos, Bool, not, ◌&&◌, ◌==◌, if◌then◌else◌, List, [], ◌∷◌, ◌++◌, Option, None, Some, unwrap_or}
 use Rattle.std.specs.Ordering.{int_eq}
 use Rattle.std.specs.List.{find, list_any}
 use Rattle.leg_lex.specs.Words.{◌>>=◌}
@@ -8,16 +8,18 @@ use Rattle.leg_geom.specs.Plane.{PointModel}
 use Rattle.leg_lib_records.specs.declared.records.Shape.{Shape}
 use Rattle.leg_lib_records.specs.Records.{LibraryModel}
 use Rattle.leg_grammar.specs.declared.path_item.Item.{Item}
-use Rattle.leg_grammar.specs.declared.path_item.Item.TheVariants.{ToPoint, AtVia, AtRect}
+use Rattle.leg_grammar.specs.declared.path_item.Item.TheVariants.{ToPoint, ToVirtual, AtVia, AtArray, AtRect}
 use Rattle.leg_design_records.specs.declared.records.Wire.{Wire}
 use Rattle.leg_design_records.specs.declared.records.Wire.TheVariants.{Segment, ViaAt, Patch}
 use Rattle.leg_grammar.specs.Def.Guard.{when, unless}
 use Rattle.leg_design_records.specs.Layers.{width_of_layer, is_routing}
 use Rattle.leg_design_records.specs.Wires.{is_straight, default_extension}
 use Rattle.leg_grammar.specs.Def.NetScope.{NetScopeModel, via_numbered}
+use Rattle.leg_grammar.specs.Def.ViaArray.{array_vias}
 
 -- An item of a path leads to a point, of which a coordinate that isn't written is that of the point before, with an
--- extension where one is written; or it is a via, by its number; or a rectangle about the point.
+-- extension where one is written; or to a virtual point, to which no metal leads; or it is a via, by its number, or an array
+-- of one; or a rectangle about the point.
 
 -- the point to which an item leads from this one
 abbrev pub next_spot : PointModel → Option ℤ → Option ℤ → PointModel
@@ -32,12 +34,15 @@ last_given before None = before
 last_given before (Some extension) = Some extension
 
 -- A path stays at a point while its items are vias, rectangles and the same point again. The extension that is given
--- last meanwhile is that of the point: it holds for both segments that meet there, on both sides of a via too.
+-- last meanwhile is that of the point: it holds for both segments that meet there, on both sides of a via too. A virtual
+-- point leaves it as the path's end does.
 unfoldable pub extension_at : PointModel → Option ℤ → List Item → Option ℤ
 extension_at at given [] = given
 extension_at at given (ToPoint x y extension ∷ items) =
     if is_same_spot at (next_spot at x y) then extension_at at (last_given given extension) items else given
+extension_at at given (ToVirtual x y ∷ items) = given
 extension_at at given (AtVia via ∷ items) = extension_at at given items
+extension_at at given (AtArray via array ∷ items) = extension_at at given items
 extension_at at given (AtRect rect ∷ items) = extension_at at given items
 
 -- The width of a segment on a routing layer: in NETS that of the layer's wires; in SPECIALNETS the width that is
@@ -69,7 +74,7 @@ across scope number layer = do
   other_layer scope.library layer via.shapes
 
 -- The wires of a path, in order, from a point with its extension, on this layer. A step to another point is a segment;
--- the same point again is none.
+-- the same point again is none. At a virtual point the path begins anew.
 unfoldable pub wires_from : NetScopeModel → Option ℤ → ℕ → PointModel → Option ℤ → List Item → Option (List Wire)
 wires_from scope written layer at extension [] = Some []
 wires_from scope written layer at extension (ToPoint x y given ∷ items) =
@@ -78,10 +83,17 @@ wires_from scope written layer at extension (ToPoint x y given ∷ items) =
       segment ← segment_to scope.library written layer at extension (next_spot at x y) (extension_at (next_spot at x y) given items)
       others ← wires_from scope written layer (next_spot at x y) (extension_at (next_spot at x y) given items) items
       Some (segment ∷ others))
+wires_from scope written layer at extension (ToVirtual x y ∷ items) =
+    wires_from scope written layer (next_spot at x y) (extension_at (next_spot at x y) None items) items
 wires_from scope written layer at extension (AtVia via ∷ items) = do
   other ← across scope via layer
   others ← wires_from scope written other at extension items
   Some (ViaAt via at ∷ others)
+wires_from scope written layer at extension (AtArray via array ∷ items) = do
+  other ← across scope via layer
+  vias ← array_vias via array at
+  others ← wires_from scope written other at extension items
+  Some (vias ++ others)
 wires_from scope written layer at extension (AtRect rect ∷ items) = do
   others ← wires_from scope written layer at extension items
   Some (Patch layer at rect ∷ others)

@@ -1,21 +1,19 @@
 -- The words of a path's items (LEF/DEF 5.8, "Regular Wiring Statement", "Special Wiring Statement").
-use Rattle.std.specs.Prelude.{ℤ, pos, Bool, true, not, ◌&&◌, ◌||◌, int_lt, if◌then◌else◌, List, [], ◌∷◌, ◌++◌, Option, None, Some, codes}
+use Rattle.std.specs.Prelude.{ℕ, ℤ, Bool, true, not, ◌&&◌, ◌||◌, if◌then◌else◌, List, [], ◌∷◌, ◌++◌, Option, None, Some, codes}
 use Rattle.std.specs.Str.{bytes_eq}
 use Rattle.leg_lex.specs.Words.{Words, ◌>>=◌, is_keyword, is_at, keyword_at, mark_at, name_at, whole_at}
 use Rattle.leg_geom.specs.Plane.{PointModel}
 use Rattle.leg_lib_records.specs.Joins.{is_wiring_word}
 use Rattle.leg_lib_records.specs.Measure.{rect_between}
 use Rattle.leg_grammar.specs.declared.path_item.Item.{Item}
-use Rattle.leg_grammar.specs.declared.path_item.Item.TheVariants.{ToPoint, AtVia, AtRect}
+use Rattle.leg_grammar.specs.declared.path_item.Item.TheVariants.{ToPoint, ToVirtual, AtVia, AtArray, AtRect}
+use Rattle.leg_grammar.specs.declared.profile.Profile.{Profile}
+use Rattle.leg_grammar.specs.declared.profile.Profile.TheVariants.{Narrow, Wide}
 use Rattle.leg_grammar.specs.Def.Guard.{unless}
+use Rattle.leg_grammar.specs.Def.Count.{count_at}
+use Rattle.leg_grammar.specs.Def.ViaArray.{array_at}
+use Rattle.leg_grammar.specs.Mask.{past_mask}
 use Rattle.leg_grammar.specs.Def.NetScope.{NetScopeModel, via_named}
-
--- a number of at least 0
-unfoldable pub count_at : Words → Option (ℤ × Words)
-count_at words = do
-  z ← whole_at words
-  some ← unless (int_lt z.0 (pos 0))
-  Some (z.0, z.1)
 
 -- a number, or `*` (42) for the coordinate of the point before
 unfoldable pub coordinate_at : Words → Option (Option ℤ × Words)
@@ -66,20 +64,62 @@ rect_item words = do
 unfoldable pub past_north : Words → Option (Unit {0} × Words)
 past_north words = if is_at (codes "N") words then keyword_at (codes "N") words else Some (tt, words)
 
--- the name of a via
-unfoldable pub via_item : NetScopeModel → Words → Option (Item × Words)
-via_item scope words = do
+-- the name of a via, which denotes its number
+unfoldable pub via_at : NetScopeModel → Words → Option (ℕ × Words)
+via_at scope words = do
   name ← name_at words
   other ← unless (is_wiring_word name.0)
   via ← via_named scope name.0
   north ← past_north name.1
-  Some (AtVia via, north.1)
+  Some (via, north.1)
 
--- an item of a path; rectangles are in NETS only
-unfoldable pub item_at : NetScopeModel → Bool → Words → Option (Item × Words)
-item_at scope special words =
+-- a via
+unfoldable pub via_item : NetScopeModel → Words → Option (Item × Words)
+via_item scope words = do
+  via ← via_at scope words
+  Some (AtVia via.0, via.1)
+
+-- behind a via: DO and the like, for an array of it
+unfoldable pub array_of_via : ℕ → Words → Option (Item × Words)
+array_of_via via words =
+    if is_at (codes "DO") words then (array_at words >>= λ array. Some (AtArray via array.0, array.1))
+    else Some (AtVia via, words)
+
+-- a via, or an array of one
+unfoldable pub via_or_array_item : NetScopeModel → Words → Option (Item × Words)
+via_or_array_item scope words = do
+  via ← via_at scope words
+  array_of_via via.0 via.1
+
+-- VIRTUAL ( x y )
+unfoldable pub virtual_item : Words → Option (Item × Words)
+virtual_item words = do
+  start ← keyword_at (codes "VIRTUAL") words
+  open_ ← mark_at 40 start.1
+  x ← coordinate_at open_.1
+  y ← coordinate_at x.1
+  close ← mark_at 41 y.1
+  Some (ToVirtual x.0 y.0, close.1)
+
+-- an item that is no point and no rectangle: a via, and in the wide profile also an array of one in SPECIALNETS, and a
+-- virtual point in NETS
+unfoldable pub other_item : Profile → NetScopeModel → Bool → Words → Option (Item × Words)
+other_item Narrow scope special words = via_item scope words
+other_item (Wide masks soft) scope special words =
+    if special then via_or_array_item scope words
+    else (if is_at (codes "VIRTUAL") words then virtual_item words else via_item scope words)
+
+-- an item of a path without its mask; rectangles are in NETS only
+unfoldable pub item_without_mask : NetScopeModel → Bool → Words → Option (Item × Words)
+item_without_mask scope special words =
     if is_at (codes "(") words then point_item words
-    else (if is_at (codes "RECT") words && not special then rect_item words else via_item scope words)
+    else (if is_at (codes "RECT") words && not special then rect_item words else other_item scope.profile scope special words)
+
+-- an item of a path, behind its mask
+unfoldable pub item_at : NetScopeModel → Bool → Words → Option (Item × Words)
+item_at scope special words = do
+  mask ← past_mask scope.profile words
+  item_without_mask scope special mask.1
 
 -- one more item
 unfoldable pub one_item : NetScopeModel → Bool → List Item → Words → Option (List Item × Words)

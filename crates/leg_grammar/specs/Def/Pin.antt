@@ -4,9 +4,9 @@ use Rattle.leg_lex.specs.Words.{Words, ◌>>=◌, mark_at, name_at, nothing_at}
 use Rattle.leg_lex.specs.Until.{over}
 use Rattle.leg_lex.specs.Statements.{statement_at, clauses_of}
 use Rattle.leg_lex.specs.NameLookup.{place_of}
-use Rattle.leg_lib_records.specs.Records.{LibraryModel}
 use Rattle.leg_design_records.specs.declared.limits.TheConstants.{ENTRY_LIMIT}
 use Rattle.leg_grammar.specs.Def.Guard.{unless}
+use Rattle.leg_grammar.specs.Def.NetScope.{NetScopeModel}
 use Rattle.leg_grammar.specs.Def.Section.{section_at}
 use Rattle.leg_design_records.specs.Records.{PinModel, pin_names}
 use Rattle.leg_grammar.specs.Def.PinClauses.{no_pin_clauses, all_ports, pin_clause}
@@ -21,21 +21,21 @@ pin_head names head = do
   Some name.0
 
 -- the entry's head and its clauses, where these names came before
-unfoldable pub pin_in : LibraryModel → List (List ℕ) → List Words → Option PinModel
-pin_in library names [] = None
-pin_in library names (head ∷ clauses) = do
+unfoldable pub pin_in : NetScopeModel → List (List ℕ) → List Words → Option PinModel
+pin_in scope names [] = None
+pin_in scope names (head ∷ clauses) = do
   name ← pin_head names head
-  parts ← over (pin_clause library) no_pin_clauses clauses
+  parts ← over (pin_clause scope) no_pin_clauses clauses
   Some (record { name = name; net_name = parts.net_name; direction = parts.direction; usage = parts.usage; ports = all_ports parts })
 
 -- one more entry
-unfoldable pub pin_entry : LibraryModel → List PinModel → Words → Option (List PinModel × Words)
-pin_entry library pins words = do
+unfoldable pub pin_entry : NetScopeModel → List PinModel → Words → Option (List PinModel × Words)
+pin_entry scope pins words = do
   room ← unless (nat_le ENTRY_LIMIT (length pins))
   statement ← statement_at words
-  pin ← pin_in library (pin_names pins) (clauses_of statement.0)
+  pin ← pin_in scope (pin_names pins) (clauses_of statement.0)
   Some (pins ++ pin ∷ [], statement.1)
 
 -- PINS number ; entries END PINS
-unfoldable pub pins_at : LibraryModel → Words → Option (List PinModel × Words)
-pins_at library words = section_at (codes "PINS") (pin_entry library) [] words
+unfoldable pub pins_at : NetScopeModel → Words → Option (List PinModel × Words)
+pins_at scope words = section_at (codes "PINS") (pin_entry scope) [] words

@@ -1,13 +1,14 @@
 -- The clauses of a pin of the design (LEF/DEF 5.8, "Pins"; what is left out is lefdef's own rule).
 use Rattle.std.specs.Prelude.{ℕ, ◌||◌, if◌then◌else◌, List, [], ◌∷◌, ◌++◌, Option, None, Some, is_some, codes}
 use Rattle.leg_lex.specs.Words.{Words, ◌>>=◌, is_at, keyword_at, name_at, word_at, nothing_at}
-use Rattle.leg_lib_records.specs.Records.{LibraryModel}
+use Rattle.leg_grammar.specs.Def.NetScope.{NetScopeModel}
 use Rattle.leg_grammar.specs.Def.Guard.{when, unless}
 use Rattle.leg_grammar.specs.Def.Placement.{says_place, placed_in}
 use Rattle.leg_grammar.specs.Def.Clause.{is_clause}
 use Rattle.leg_grammar.specs.Def.Layers.{with_rect}
 use Rattle.leg_design_records.specs.Records.{PortModel}
 use Rattle.leg_grammar.specs.Def.Port.{empty_port, layer_rect}
+use Rattle.leg_grammar.specs.Def.PortVia.{with_via}
 
 -- what the clauses before gave: words that appear at most once, the ports that are whole, and the last port
 pub record PinClauses : Type 0 where
@@ -58,10 +59,16 @@ port_start parts clause = do
   Some (record parts { done = all_ports parts; last = Some empty_port })
 
 -- LAYER, which adds a rectangle to the last port
-unfoldable pub port_rect : LibraryModel → PinClauses → Words → Option PinClauses
-port_rect library parts clause = do
-  on ← layer_rect library clause
-  Some (record parts { last = Some (record (last_port parts) { shapes = with_rect library on.0 on.1 (last_port parts).shapes }) })
+unfoldable pub port_rect : NetScopeModel → PinClauses → Words → Option PinClauses
+port_rect scope parts clause = do
+  on ← layer_rect scope.profile scope.library clause
+  Some (record parts { last = Some (record (last_port parts) { shapes = with_rect scope.library on.0 on.1 (last_port parts).shapes }) })
+
+-- VIA, which adds the rectangles of a via to the last port
+unfoldable pub port_via : NetScopeModel → PinClauses → Words → Option PinClauses
+port_via scope parts clause = do
+  shapes ← with_via scope (last_port parts).shapes clause
+  Some (record parts { last = Some (record (last_port parts) { shapes = shapes }) })
 
 -- PLACED, FIXED or COVER with a place, at most once in a port
 unfoldable pub port_place : PinClauses → Words → Option PinClauses
@@ -92,13 +99,14 @@ pin_use_clause parts clause = do
   Some (record parts { usage = Some word })
 
 -- one more clause
-unfoldable pub pin_clause : LibraryModel → PinClauses → Words → Option PinClauses
-pin_clause library parts clause =
+unfoldable pub pin_clause : NetScopeModel → PinClauses → Words → Option PinClauses
+pin_clause scope parts clause =
     if is_at (codes "NET") clause then pin_net_clause parts clause
     else (if is_at (codes "DIRECTION") clause then direction_clause parts clause
     else (if is_at (codes "USE") clause then pin_use_clause parts clause
     else (if is_at (codes "PORT") clause then port_start parts clause
-    else (if is_at (codes "LAYER") clause then port_rect library parts clause
+    else (if is_at (codes "LAYER") clause then port_rect scope parts clause
     else (if says_place clause then port_place parts clause
-    else (if is_at (codes "POLYGON") clause || is_at (codes "VIA") clause || is_at (codes "MASK") clause then None
-    else (when (is_clause clause) >>= λ _. Some parts)))))))
+    else (if is_at (codes "VIA") clause then port_via scope parts clause
+    else (if is_at (codes "POLYGON") clause || is_at (codes "MASK") clause then None
+    else (when (is_clause clause) >>= λ _. Some parts))))))))

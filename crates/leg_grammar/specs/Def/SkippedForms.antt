@@ -1,8 +1,10 @@
 -- What is read past of a DEF text (lefdef's own rule).
-use Rattle.std.specs.Prelude.{Bool, ◌||◌, if◌then◌else◌, [], ◌∷◌, Option, None, Some, codes}
+use Rattle.std.specs.Prelude.{Bool, ◌&&◌, ◌||◌, if◌then◌else◌, [], ◌∷◌, Option, None, Some, codes}
 use Rattle.leg_lex.specs.Words.{Words, ◌>>=◌, is_at, end_at}
 use Rattle.leg_lex.specs.Past.{past, past_extension}
 use Rattle.leg_lex.specs.Statements.{statement_at}
+use Rattle.leg_grammar.specs.declared.profile.Profile.{Profile}
+use Rattle.leg_grammar.specs.Mask.{drops_masks}
 
 -- statements without effect
 abbrev pub is_past_statement : Words → Bool
@@ -21,9 +23,11 @@ unfoldable pub past_def_section : Words → Option (Unit {0} × Words)
 past_def_section [] = None
 past_def_section (keyword ∷ words) = past (end_at keyword) words
 
--- what is read past
-unfoldable pub past_def_form : Words → Option (Unit {0} × Words)
-past_def_form words =
+-- what is read past; which layers have masks that a component shifts, only where masks are read past
+unfoldable pub past_def_form : Profile → Words → Option (Unit {0} × Words)
+past_def_form profile words =
     if is_past_statement words then (statement_at words >>= λ statement. Some (tt, statement.1))
     else (if is_past_section words then past_def_section words
-    else (if is_at (codes "BEGINEXT") words then past_extension words else None))
+    else (if is_at (codes "BEGINEXT") words then past_extension words
+    else (if drops_masks profile && is_at (codes "COMPONENTMASKSHIFT") words then (statement_at words >>= λ statement. Some (tt, statement.1))
+    else None)))

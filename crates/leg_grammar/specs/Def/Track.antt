@@ -5,7 +5,9 @@ use Rattle.leg_lex.specs.Until.{until}
 use Rattle.leg_lex.specs.Statements.{statement_at}
 use Rattle.leg_lex.specs.NameLookup.{place_of}
 use Rattle.leg_lib_records.specs.Records.{LibraryModel, layer_names}
+use Rattle.leg_grammar.specs.declared.profile.Profile.{Profile}
 use Rattle.leg_grammar.specs.Def.Guard.{when, is_over, is_within}
+use Rattle.leg_grammar.specs.Def.TrackMask.{past_track_mask}
 use Rattle.leg_design_records.specs.Records.{TrackModel}
 use Rattle.leg_design_records.specs.declared.records.Axis.{Axis}
 use Rattle.leg_design_records.specs.declared.records.Axis.TheVariants.{X, Y}
@@ -32,9 +34,9 @@ layers_in library (word ∷ words) = do
   numbers ← until is_over (one_layer library) first.0 first.1
   Some numbers.0
 
--- TRACKS axis start DO n STEP s layers
-unfoldable pub track_in : LibraryModel → Words → Option TrackModel
-track_in library statement = do
+-- TRACKS axis start DO n STEP s mask layers
+unfoldable pub track_in : Profile → LibraryModel → Words → Option TrackModel
+track_in profile library statement = do
   first ← keyword_at (codes "TRACKS") statement
   axis ← axis_at first.1
   start ← whole_at axis.1
@@ -45,12 +47,13 @@ track_in library statement = do
   step ← whole_at step_.1
   apart ← when (int_le (pos 1) step.0)
   end ← when (is_within (start.0 +ℤ (count.0 -ℤ pos 1) *ℤ step.0))
-  layers ← layers_in library step.1
+  mask ← past_track_mask profile step.1
+  layers ← layers_in library mask.1
   Some (record { axis = axis.0; start = start.0; count = count.0; step = step.0; layers = layers })
 
 -- TRACKS .. ;
-unfoldable pub track_at : LibraryModel → Words → Option (TrackModel × Words)
-track_at library words = do
+unfoldable pub track_at : Profile → LibraryModel → Words → Option (TrackModel × Words)
+track_at profile library words = do
   statement ← statement_at words
-  track ← track_in library statement.0
+  track ← track_in profile library statement.0
   Some (track, statement.1)

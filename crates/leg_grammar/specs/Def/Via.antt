@@ -12,6 +12,10 @@ use Rattle.leg_grammar.specs.Def.Placement.{rect_at}
 use Rattle.leg_grammar.specs.Def.Clause.{is_clause}
 use Rattle.leg_grammar.specs.Def.Layers.{layer_named_at, with_rect}
 use Rattle.leg_grammar.specs.Def.Section.{section_at}
+use Rattle.leg_grammar.specs.Def.GeneratedVia.{is_generated}
+use Rattle.leg_grammar.specs.Def.CutArray.{generated_shapes}
+use Rattle.leg_grammar.specs.declared.profile.Profile.{Profile}
+use Rattle.leg_grammar.specs.declared.profile.Profile.TheVariants.{Narrow, Wide}
 use Rattle.leg_design_records.specs.Records.{design_via_names}
 
 -- RECT NAME corners
@@ -45,21 +49,27 @@ via_head library vias head = do
   end ← nothing_at name.1
   Some name.0
 
+-- the shapes that the clauses say, where these vias came before: the wide profile takes generated vias too
+unfoldable pub shapes_in : Profile → LibraryModel → List ViaModel → List Words → Option (List Shape)
+shapes_in Narrow library vias clauses = over (via_clause library) [] clauses
+shapes_in (Wide masks soft) library vias clauses =
+    if is_generated clauses then generated_shapes library vias clauses else over (via_clause library) [] clauses
+
 -- the entry's head and its clauses, where these vias came before
-unfoldable pub via_in : LibraryModel → List ViaModel → List Words → Option ViaModel
-via_in library vias [] = None
-via_in library vias (head ∷ clauses) = do
+unfoldable pub via_in : Profile → LibraryModel → List ViaModel → List Words → Option ViaModel
+via_in profile library vias [] = None
+via_in profile library vias (head ∷ clauses) = do
   name ← via_head library vias head
-  shapes ← over (via_clause library) [] clauses
+  shapes ← shapes_in profile library vias clauses
   Some (record { name = name; default_via = false; good = is_good_via library name shapes; shapes = shapes })
 
 -- one more entry
-unfoldable pub via_entry : LibraryModel → List ViaModel → Words → Option (List ViaModel × Words)
-via_entry library vias words = do
+unfoldable pub via_entry : Profile → LibraryModel → List ViaModel → Words → Option (List ViaModel × Words)
+via_entry profile library vias words = do
   statement ← statement_at words
-  via ← via_in library vias (clauses_of statement.0)
+  via ← via_in profile library vias (clauses_of statement.0)
   Some (vias ++ via ∷ [], statement.1)
 
 -- VIAS number ; entries END VIAS
-unfoldable pub vias_at : LibraryModel → Words → Option (List ViaModel × Words)
-vias_at library words = section_at (codes "VIAS") (via_entry library) [] words
+unfoldable pub vias_at : Profile → LibraryModel → Words → Option (List ViaModel × Words)
+vias_at profile library words = section_at (codes "VIAS") (via_entry profile library) [] words

@@ -5,13 +5,16 @@ use Rattle.leg_lex.specs.Words.{Words, ◌>>=◌, is_at, next_at, keyword_at, ma
 use Rattle.leg_lex.specs.Until.{until}
 use Rattle.leg_lex.specs.NameLookup.{place_of}
 use Rattle.leg_lib_records.specs.Records.{LibraryModel, layer_names}
+use Rattle.leg_grammar.specs.declared.profile.Profile.{Profile}
+use Rattle.leg_grammar.specs.declared.profile.Profile.TheVariants.{Narrow, Wide}
 use Rattle.leg_design_records.specs.declared.records.Wire.{Wire}
 use Rattle.leg_grammar.specs.Def.Guard.{when}
 use Rattle.leg_design_records.specs.Layers.{is_routing}
 use Rattle.leg_design_records.specs.Wires.{is_even}
+use Rattle.leg_grammar.specs.Def.Count.{count_at}
 use Rattle.leg_grammar.specs.Def.NetScope.{NetScopeModel}
 use Rattle.leg_grammar.specs.Def.Path.{path_wires}
-use Rattle.leg_grammar.specs.Def.PathItem.{count_at, first_point_at, one_item, at_path_end}
+use Rattle.leg_grammar.specs.Def.PathItem.{first_point_at, one_item, at_path_end}
 
 -- a routing layer, by its number
 unfoldable pub routing_at : LibraryModel → Words → Option (ℕ × Words)
@@ -93,8 +96,22 @@ wiring_start clause =
       Some (tt, name.1))
     else (next_at clause >>= λ start. Some (tt, start.1))
 
+-- whether a clause comes next that gives a rectangle or a via beside paths, or its shape or mask
+abbrev pub is_shape_clause : Words → Bool
+is_shape_clause clause =
+    is_at (codes "RECT") clause || is_at (codes "VIA") clause || is_at (codes "SHAPE") clause || is_at (codes "MASK") clause
+
+abbrev pub at_shape_clause : Words → Bool
+at_shape_clause words = is_at (codes "+") words && is_shape_clause (drop 1 words)
+
+-- paths; in SPECIALNETS of the wide profile the word of the clause may instead be that of such clauses behind it
+unfoldable pub wires_at : Profile → NetScopeModel → Bool → Words → Option (List Wire × Words)
+wires_at Narrow scope special words = paths_at scope special words
+wires_at (Wide masks soft) scope special words =
+    if special && at_shape_clause words then Some ([], words) else paths_at scope special words
+
 -- ROUTED and the like, and paths
 unfoldable pub wiring_at : NetScopeModel → Bool → Words → Option (List Wire × Words)
 wiring_at scope special clause = do
   start ← wiring_start clause
-  paths_at scope special start.1
+  wires_at scope.profile scope special start.1

@@ -9,7 +9,7 @@ use Rattle.leg_grammar.specs.declared.profile.Profile.{Profile}
 use Rattle.leg_grammar.specs.Lef.Layer.{with_layer}
 use Rattle.leg_grammar.specs.Lef.Via.{with_via}
 use Rattle.leg_grammar.specs.Lef.Site.{with_site}
-use Rattle.leg_grammar.specs.Lef.Macro.{with_macro}
+use Rattle.leg_grammar.specs.Lef.MacroSkip.{with_macro}
 
 -- VIARULE NAME .. END NAME and NONDEFAULTRULE NAME .. END NAME are read past
 unfoldable pub past_named : Words → Option (Unit {0} × Words)
@@ -41,12 +41,12 @@ past_lef_form words =
     else past_statement words))))
 
 -- one form of a library, which adds to what was read before it
-unfoldable pub library_form_at : RawLibraryModel → Words → Option (RawLibraryModel × Words)
-library_form_at library words =
+unfoldable pub library_form_at : Profile → RawLibraryModel → Words → Option (RawLibraryModel × Words)
+library_form_at profile library words =
     if is_at (codes "LAYER") words then with_layer library words
-    else (if is_at (codes "VIA") words then with_via library words
+    else (if is_at (codes "VIA") words then with_via profile library words
     else (if is_at (codes "SITE") words then with_site library words
-    else (if is_at (codes "MACRO") words then with_macro library words
+    else (if is_at (codes "MACRO") words then with_macro profile library words
     else (past_lef_form words >>= λ form. Some (library, form.1)))))
 
 -- What the forms before gave: a library. The profile in which they are read stays the same.
@@ -61,7 +61,7 @@ no_lef_parts profile = record { profile = profile; library = empty_library }
 -- one form
 unfoldable pub lef_form_at : LefParts → Words → Option (LefParts × Words)
 lef_form_at parts words = do
-  form ← library_form_at parts.library words
+  form ← library_form_at parts.profile parts.library words
   Some (record parts { library = form.0 }, form.1)
 
 -- where the forms end: at the text's end, or at an END in a form's place

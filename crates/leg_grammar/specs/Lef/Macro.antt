@@ -10,6 +10,7 @@ use Rattle.leg_geom.specs.Plane.{PointModel}
 use Rattle.leg_grammar.specs.declared.macro_statements.MacroStatements.{MacroStatements}
 use Rattle.leg_lib_records.specs.declared.raw.RawShape.{RawShape}
 use Rattle.leg_lib_records.specs.Records.{RawLibraryModel, RawPinModel, RawMasterModel, raw_site_names, raw_master_names}
+use Rattle.leg_grammar.specs.declared.profile.Profile.{Profile}
 use Rattle.leg_grammar.specs.Lef.Point.{point_at, size_in}
 use Rattle.leg_grammar.specs.Lef.Geometry.{geometry_at}
 use Rattle.leg_grammar.specs.Lef.Pin.{pin_at}
@@ -24,17 +25,17 @@ abbrev pub no_macro_parts : MacroParts
 no_macro_parts = record { pins = []; obstructions = []; statements = [] }
 
 -- a pin's name is new in its macro
-unfoldable pub macro_pin : RawLibraryModel → MacroParts → Words → Option (MacroParts × Words)
-macro_pin library parts words = do
-  pin ← pin_at library words
+unfoldable pub macro_pin : Profile → RawLibraryModel → MacroParts → Words → Option (MacroParts × Words)
+macro_pin profile library parts words = do
+  pin ← pin_at profile library words
   if is_none (place_of pin.0.name (map (λ p. p.name) parts.pins))
       then Some (record parts { pins = parts.pins ++ pin.0 ∷ [] }, pin.1) else None
 
 -- OBS shapes END
-unfoldable pub macro_obstruction : RawLibraryModel → MacroParts → Words → Option (MacroParts × Words)
-macro_obstruction library parts words = do
+unfoldable pub macro_obstruction : Profile → RawLibraryModel → MacroParts → Words → Option (MacroParts × Words)
+macro_obstruction profile library parts words = do
   start ← keyword_at (codes "OBS") words
-  shapes ← geometry_at library start.1
+  shapes ← geometry_at profile library start.1
   end ← keyword_at (codes "END") shapes.1
   Some (record parts { obstructions = parts.obstructions ++ shapes.0 }, end.1)
 
@@ -58,10 +59,10 @@ macro_statement parts words = do
   Some (record parts { statements = parts.statements ++ statement.0 ∷ [] }, statement.1)
 
 -- one more part of a macro
-unfoldable pub macro_part : RawLibraryModel → MacroParts → Words → Option (MacroParts × Words)
-macro_part library parts words =
-    if is_at (codes "PIN") words then macro_pin library parts words
-    else (if is_at (codes "OBS") words then macro_obstruction library parts words
+unfoldable pub macro_part : Profile → RawLibraryModel → MacroParts → Words → Option (MacroParts × Words)
+macro_part profile library parts words =
+    if is_at (codes "PIN") words then macro_pin profile library parts words
+    else (if is_at (codes "OBS") words then macro_obstruction profile library parts words
     else (if is_at (codes "DENSITY") words then macro_density parts words
     else (if is_at (codes "TIMING") words then macro_timing parts words
     else macro_statement parts words)))
@@ -116,11 +117,11 @@ macro_said library statements = do
   Some (record { size = size; origin = origin; y_symmetric = y_symmetric; site = site })
 
 -- MACRO NAME parts END NAME
-unfoldable pub macro_at : RawLibraryModel → Words → Option (RawMasterModel × Words)
-macro_at library words = do
+unfoldable pub macro_at : Profile → RawLibraryModel → Words → Option (RawMasterModel × Words)
+macro_at profile library words = do
   start ← keyword_at (codes "MACRO") words
   name ← name_at start.1
-  parts ← until at_end (macro_part library) no_macro_parts name.1
+  parts ← until at_end (macro_part profile library) no_macro_parts name.1
   said ← macro_said library parts.0.statements
   end ← end_of name.0 parts.1
   Some (
@@ -137,8 +138,8 @@ macro_at library words = do
   )
 
 -- a macro's name is new
-unfoldable pub with_macro : RawLibraryModel → Words → Option (RawLibraryModel × Words)
-with_macro library words = do
-  master ← macro_at library words
+unfoldable pub with_master : Profile → RawLibraryModel → Words → Option (RawLibraryModel × Words)
+with_master profile library words = do
+  master ← macro_at profile library words
   if is_none (place_of master.0.name (raw_master_names library))
       then Some (record library { masters = library.masters ++ master.0 ∷ [] }, master.1) else None

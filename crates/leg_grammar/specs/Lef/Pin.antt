@@ -7,6 +7,7 @@ use Rattle.leg_lib_records.specs.declared.records.Supply.{Supply}
 use Rattle.leg_lib_records.specs.declared.records.Supply.TheVariants.{NoSupply, Power, Ground}
 use Rattle.leg_lib_records.specs.declared.raw.RawShape.{RawShape}
 use Rattle.leg_lib_records.specs.Records.{RawLibraryModel, RawPinModel}
+use Rattle.leg_grammar.specs.declared.profile.Profile.{Profile}
 use Rattle.leg_grammar.specs.Lef.Geometry.{geometry_at}
 
 -- what came before in a pin: the shapes of its ports, and its statements
@@ -18,18 +19,18 @@ abbrev pub no_pin_parts : PinParts
 no_pin_parts = record { shapes = []; statements = [] }
 
 -- PORT shapes END
-unfoldable pub port_at : RawLibraryModel → Words → Option (List RawShape × Words)
-port_at library words = do
+unfoldable pub port_at : Profile → RawLibraryModel → Words → Option (List RawShape × Words)
+port_at profile library words = do
   start ← keyword_at (codes "PORT") words
-  shapes ← geometry_at library start.1
+  shapes ← geometry_at profile library start.1
   end ← keyword_at (codes "END") shapes.1
   Some (shapes.0, end.1)
 
 -- one more port, or one more statement
-unfoldable pub pin_part : RawLibraryModel → PinParts → Words → Option (PinParts × Words)
-pin_part library parts words =
+unfoldable pub pin_part : Profile → RawLibraryModel → PinParts → Words → Option (PinParts × Words)
+pin_part profile library parts words =
     if is_at (codes "PORT") words then (do
-      port ← port_at library words
+      port ← port_at profile library words
       Some (record parts { shapes = parts.shapes ++ port.0 }, port.1))
     else (do
       statement ← statement_at words
@@ -52,11 +53,11 @@ supply_of_any None = Some NoSupply
 supply_of_any (Some statement) = use_in statement >>= λ word. Some (supply_of word)
 
 -- PIN NAME ports and statements END NAME: at most one USE, and the rest is read past
-unfoldable pub pin_at : RawLibraryModel → Words → Option (RawPinModel × Words)
-pin_at library words = do
+unfoldable pub pin_at : Profile → RawLibraryModel → Words → Option (RawPinModel × Words)
+pin_at profile library words = do
   start ← keyword_at (codes "PIN") words
   name ← name_at start.1
-  parts ← until at_end (pin_part library) no_pin_parts name.1
+  parts ← until at_end (pin_part profile library) no_pin_parts name.1
   found ← only (codes "USE") parts.0.statements
   supply ← supply_of_any found
   end ← end_of name.0 parts.1

@@ -4,6 +4,8 @@ use Rattle.std.specs.Prelude.{pos, ◌&&◌, int_lt, if◌then◌else◌, Option
 use Rattle.leg_lex.specs.Words.{Words, ◌>>=◌, is_at, keyword_at, mark_at, length_at, nothing_at}
 use Rattle.leg_geom.specs.Plane.{PointModel, RectModel}
 use Rattle.leg_lib_records.specs.Measure.{ExtentModel, rect_between}
+use Rattle.leg_grammar.specs.declared.profile.Profile.{Profile}
+use Rattle.leg_grammar.specs.Mask.{past_mask}
 
 -- LEN LEN
 unfoldable pub coordinates_at : Words → Option (PointModel × Words)
@@ -24,11 +26,12 @@ enclosed_point_at words = do
 unfoldable pub point_at : Words → Option (PointModel × Words)
 point_at words = if is_at (codes "(") words then enclosed_point_at words else coordinates_at words
 
--- RECT point point
-unfoldable pub rect_in : Words → Option RectModel
-rect_in statement = do
+-- RECT point point, in the wide profile with a mask before the points
+unfoldable pub rect_in : Profile → Words → Option RectModel
+rect_in profile statement = do
   start ← keyword_at (codes "RECT") statement
-  p ← point_at start.1
+  mask ← past_mask profile start.1
+  p ← point_at mask.1
   q ← point_at p.1
   end ← nothing_at q.1
   rect_between p.0 q.0

@@ -6,6 +6,8 @@ use Rattle.leg_lex.specs.Statements.{statements_at}
 use Rattle.leg_lex.specs.NameLookup.{place_of}
 use Rattle.leg_lib_records.specs.declared.raw.RawShape.{RawShape}
 use Rattle.leg_lib_records.specs.Records.{RawLibraryModel, RawViaModel, raw_layer_names, raw_via_names}
+use Rattle.leg_grammar.specs.declared.profile.Profile.{Profile}
+use Rattle.leg_grammar.specs.Mask.{drops_masks}
 use Rattle.leg_grammar.specs.Lef.Geometry.{Drawn, nothing_drawn, drawn_rect}
 use Rattle.leg_lib_records.specs.Joins.{is_wiring_word, join_layers}
 use Rattle.leg_lib_records.specs.GoodVia.{raw_uses, raw_parts}
@@ -50,19 +52,19 @@ layer_of_via library statement = do
   end ← nothing_at name.1
   place_of name.0 (raw_layer_names library)
 
--- VIARULE, POLYGON and RECT MASK: a via of a rule or with such shapes isn't good
-abbrev pub spoils : Words → Bool
-spoils statement =
+-- VIARULE, POLYGON, and RECT MASK unless masks are dropped: a via of a rule or with such shapes isn't good
+abbrev pub spoils : Profile → Words → Bool
+spoils profile statement =
     is_at (codes "VIARULE") statement || is_at (codes "POLYGON") statement
-    || (is_at (codes "RECT") statement && is_at (codes "MASK") (drop 1 statement))
+    || (not (drops_masks profile) && is_at (codes "RECT") statement && is_at (codes "MASK") (drop 1 statement))
 
 -- one more statement
-unfoldable pub via_part : RawLibraryModel → ViaParts → Words → Option ViaParts
-via_part library parts statement =
-    if spoils statement then Some (record parts { is_spoilt = true })
+unfoldable pub via_part : Profile → RawLibraryModel → ViaParts → Words → Option ViaParts
+via_part profile library parts statement =
+    if spoils profile statement then Some (record parts { is_spoilt = true })
     else (if is_at (codes "LAYER") statement then
     (layer_of_via library statement >>= λ number. Some (record parts { drawn = record { on = Some number; shapes = parts.drawn.shapes } }))
-    else (if is_at (codes "RECT") statement then (drawn_rect library parts.drawn statement >>= λ drawn. Some (record parts { drawn = drawn }))
+    else (if is_at (codes "RECT") statement then (drawn_rect profile library parts.drawn statement >>= λ drawn. Some (record parts { drawn = drawn }))
     else Some parts))
 
 abbrev pub is_good : RawLibraryModel → List ℕ → ViaParts → Bool
@@ -75,12 +77,12 @@ abbrev pub kept : Bool → List RawShape → List RawShape
 kept good shapes = if good then shapes else []
 
 -- VIA NAME words statements END NAME
-unfoldable pub via_at : RawLibraryModel → Words → Option (RawViaModel × Words)
-via_at library words = do
+unfoldable pub via_at : Profile → RawLibraryModel → Words → Option (RawViaModel × Words)
+via_at profile library words = do
   start ← keyword_at (codes "VIA") words
   name ← name_at start.1
   body ← statements_at (flags_at name.1).1
-  parts ← over (via_part library) no_via_parts body.0
+  parts ← over (via_part profile library) no_via_parts body.0
   end ← end_of name.0 body.1
   Some (
     record {
@@ -93,8 +95,8 @@ via_at library words = do
   )
 
 -- a via's name is new
-unfoldable pub with_via : RawLibraryModel → Words → Option (RawLibraryModel × Words)
-with_via library words = do
-  via ← via_at library words
+unfoldable pub with_via : Profile → RawLibraryModel → Words → Option (RawLibraryModel × Words)
+with_via profile library words = do
+  via ← via_at profile library words
   if is_none (place_of via.0.name (raw_via_names library))
       then Some (record library { vias = library.vias ++ via.0 ∷ [] }, via.1) else None

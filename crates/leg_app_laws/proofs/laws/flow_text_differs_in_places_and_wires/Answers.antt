@@ -1,15 +1,14 @@
 use Rattle.std.proofs.Common.{ap, ◌∙◌}
 use Rattle.leg_app_laws.proofs.ComparisonLines.{both_answered}
 use Rattle.leg_app_laws.proofs.PrintedDifferences.{said_well_formed, said_under}
-use Rattle.leg_grammar.specs.declared.profile.Profile.TheVariants.{Narrow}
 use Rattle.leg_app_laws.proofs.laws.flow_text_differs_in_places_and_wires.Goals as goal
 
 pub returns : goal.returns
-returns c = λ lefs def text library design say printed one fits.
+returns c = λ profile lefs def text library design say printed one fits.
     let after = printed.routed in
     let same = ap (λ d. d.library) printed.routes.same.rest ∙ ap (λ d. d.library) printed.legalises.same.rest in
-    let again = c.printed_texts_say_their_designs.ensures.flow lefs def text library design say printed one fits in
-    both_answered c.texts_say_one_design.ensures Narrow lefs def text library design after say
-    (said_under Narrow lefs def library design say text after same again)
+    let again = c.printed_texts_say_their_designs.ensures.flow profile lefs def text library design say printed one fits in
+    both_answered c.texts_say_one_design.ensures profile lefs def text library design after say
+    (said_under profile lefs def library design say text after same again)
     (c.legalised_and_routed_design_differs_in_places_and_wires.ensures design printed.legalised after
-    (said_well_formed Narrow lefs def library design say) printed.legalises.same printed.routes.same)
+    (said_well_formed profile lefs def library design say) printed.legalises.same printed.routes.same)

@@ -2,6 +2,6 @@ use Rattle.leg_app_laws.proofs.Legal.{flow_legal}
 use Rattle.leg_app_laws.proofs.laws.flow_text_is_legal.Goals as goal
 
 pub returns : goal.returns
-returns c = λ lefs def text library design say printed one fits.
-    flow_legal c.printed_text_says_its_design.ensures.design c.printed_text_says_its_design.ensures.units lefs def text library design say
+returns c = λ profile lefs def text library design say printed one fits.
+    flow_legal c.printed_text_says_its_design.ensures.design c.printed_text_says_its_design.ensures.units profile lefs def text library design say
     c.command_has_one_answer.ensures printed one fits

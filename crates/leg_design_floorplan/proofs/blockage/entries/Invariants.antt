@@ -6,7 +6,7 @@ use Rattle.leg_design_floorplan.proofs.blockage.entries.Given as goal
 
 abbrev pub invariant-entries : goal.invariant-entries
 invariant-entries g l =
-    until at_end (blockage_entry l.library) l.blockages l.words ≡ until at_end (blockage_entry l.library) [] l.initial.words
+    until at_end (blockage_entry l.fn.profile l.library) l.blockages l.words ≡ until at_end (blockage_entry l.fn.profile l.library) [] l.initial.words
 
 abbrev pub decreases-entries : goal.decreases-entries
 decreases-entries g l = length l.words

@@ -6,7 +6,7 @@ use Rattle.leg_design_floorplan.proofs.pin.entries.Given as goal
 
 abbrev pub invariant-entries : goal.invariant-entries
 invariant-entries g l =
-    until at_end (pin_entry l.library) l.pins l.words ≡ until at_end (pin_entry l.library) [] l.initial.words
+    until at_end (pin_entry l.scope) l.pins l.words ≡ until at_end (pin_entry l.scope) [] l.initial.words
 
 abbrev pub decreases-entries : goal.decreases-entries
 decreases-entries g l = length l.words

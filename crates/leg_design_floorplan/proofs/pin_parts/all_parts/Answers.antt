@@ -11,15 +11,15 @@ pub returns-in_err-add : goal.returns-in_err-add
 returns-in_err-add g c =
     let p = err_from_is_err_and c.from_residual.result c.from_residual.ensures.1 in
     rw (p.1, p.2) (λ not_memory. sym c.loop-clause.invariant
-    ∙ over_fails (pin_clause c.args.library.now) c.loop-clause.parts c.args.clauses.now c.loop-clause.clause-index c.clause-item.result c.loop-clause-test.true
+    ∙ over_fails (pin_clause c.args.scope.now) c.loop-clause.parts c.args.clauses.now c.loop-clause.clause-index c.clause-item.result c.loop-clause-test.true
     c.clause-item.is (rw c.again.ensures at c.in_err-add.ensures not_memory))
 
 pub loop-clause-preserved : goal.loop-clause-preserved
 loop-clause-preserved g c =
-    rw (← over_goes_on (pin_clause c.args.library.now) c.loop-clause.parts c.add.new.self c.args.clauses.now c.loop-clause.clause-index c.clause-item.result
+    rw (← over_goes_on (pin_clause c.args.scope.now) c.loop-clause.parts c.add.new.self c.args.clauses.now c.loop-clause.clause-index c.clause-item.result
     c.loop-clause-test.true c.clause-item.is (rw c.again.ensures at c.in_ok-add.ensures)) c.loop-clause.invariant
 
 pub returns : goal.returns
 returns g c =
     sym c.loop-clause.invariant
-    ∙ over_ends (pin_clause c.args.library.now) c.loop-clause.parts c.args.clauses.now c.loop-clause.clause-index c.loop-clause-test.false
+    ∙ over_ends (pin_clause c.args.scope.now) c.loop-clause.parts c.args.clauses.now c.loop-clause.clause-index c.loop-clause-test.false

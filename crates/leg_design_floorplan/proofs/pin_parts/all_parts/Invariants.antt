@@ -5,4 +5,4 @@ use Rattle.leg_design_floorplan.proofs.pin_parts.all_parts.Given as goal
 
 abbrev pub invariant-loop-clause : goal.invariant-loop-clause
 invariant-loop-clause g l =
-    over (pin_clause l.library) l.parts (drop l.clause-index l.clauses) ≡ over (pin_clause l.library) no_pin_clauses l.clauses
+    over (pin_clause l.scope) l.parts (drop l.clause-index l.clauses) ≡ over (pin_clause l.scope) no_pin_clauses l.clauses

@@ -6,7 +6,7 @@ use Rattle.leg_design_floorplan.proofs.via.entries.Given as goal
 
 abbrev pub invariant-entries : goal.invariant-entries
 invariant-entries g l =
-    until at_end (via_entry l.library) l.vias l.words ≡ until at_end (via_entry l.library) [] l.initial.words
+    until at_end (via_entry l.profile l.library) l.vias l.words ≡ until at_end (via_entry l.profile l.library) [] l.initial.words
 
 abbrev pub decreases-entries : goal.decreases-entries
 decreases-entries g l = length l.words

@@ -5,4 +5,5 @@ use Rattle.leg_print_laws.proofs.laws.printed_design_is_read_again.Goals as goal
 
 pub returns : goal.returns
 returns g c =
-    λ one fits. text_says c.args.design.now (subst IsSound c.library-library.ensures.is c.layers-layers.ensures.proper) c.die-die.ensures.proper one fits
+    λ profile one fits.
+    text_says profile c.args.design.now (subst IsSound c.library-library.ensures.is c.layers-layers.ensures.proper) c.die-die.ensures.proper one fits

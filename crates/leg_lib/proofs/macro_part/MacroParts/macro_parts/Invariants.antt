@@ -5,7 +5,8 @@ use Rattle.leg_grammar.specs.Lef.Macro.{macro_part}
 use Rattle.leg_lib.proofs.macro_part.MacroParts.macro_parts.Given as goal
 
 abbrev pub invariant-parts : goal.invariant-parts
-invariant-parts g l = until at_end (macro_part l.library) l.self l.words ≡ until at_end (macro_part l.library) l.initial.self l.initial.words
+invariant-parts g l =
+    until at_end (macro_part l.fn.profile l.library) l.self l.words ≡ until at_end (macro_part l.fn.profile l.library) l.initial.self l.initial.words
 
 abbrev pub decreases-parts : goal.decreases-parts
 decreases-parts g l = length l.words

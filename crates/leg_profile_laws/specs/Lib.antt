@@ -1,0 +1,2 @@
+pub mod LefMasks
+pub mod SegmentMetal

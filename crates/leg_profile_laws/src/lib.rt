@@ -1,0 +1,4 @@
+//! What the narrow profile reads, each profile reads as the same.
+#![tactic(auto)]
+
+pub mod laws;

@@ -1,0 +1,5 @@
+//! The slabs of polygons: tests of `leg_polygon` by values.
+#![tactic(auto)]
+
+#[cfg(test)]
+mod tests;
