@@ -12,6 +12,8 @@ import os
 import re
 from typing import NamedTuple
 
+TOP = os.path.dirname(os.path.dirname(os.path.abspath(__file__)))
+
 # What is no code: comments, texts, characters.
 DEAD = re.compile(r'''//[^\n]*|b?"(?:\\.|[^"\\])*"|b?'(?:\\x[0-9a-fA-F]{2}|\\.|[^'\\\n])\'''', re.DOTALL)
 START = re.compile(r'(?P<public>pub(?:\([a-z]+\))?\s+)?(?:(?:unsafe|const|extern)\s+(?=(?:(?:unsafe|extern)\s+)*(?:fn|impl|trait)\b))*'
@@ -248,6 +250,9 @@ class Scope:
         if path[0] != 'Rattle' or len(path) < 3 or path[2] != 'specs' or {'declared', 'contracts'} & {*path, name}:
             return
         folder = os.path.join('crates', path[1], *path[2:])
+        if not os.path.exists(os.path.join(TOP, f'{folder}.antt')) and os.path.exists(os.path.join(TOP, f'{os.path.dirname(folder)}.antt')):
+            # (the last name is that of a type of the module, whose cases the list names)
+            folder, name, is_list = os.path.dirname(folder), path[-1], True
         if is_list:
             self.names[alias] = Definition(path[1], folder + '.antt', name)
         else:

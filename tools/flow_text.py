@@ -163,18 +163,6 @@ class Arguments(Parser):
         return asked.design, getattr(asked, 'libraries', ())
 
 
-class LefArguments(Arguments):
-    """Words of a command line: a LEF, those before it, and where the answer goes."""
-    order = 'this tool is given LEFs alone'
-
-    def add_inputs(self, libraries):
-        self.add_argument('library', metavar='LEF', help='the LEF that is rewritten')
-        self.add_argument('libraries', metavar='BEFORE', nargs=libraries, default=(), help='the LEFs that lefdef is given before it, if it uses layers of theirs')
-
-    def inputs(self, asked):
-        return None, [asked.library, *asked.libraries]
-
-
 def check_output(asked, design, libraries):
     """Returns why the output cannot be written, or None: a text that is read is never overwritten, another file only with --force."""
     if asked.output is None or not os.path.exists(asked.output):

@@ -1,5 +1,5 @@
-"""What of a block is not judged, or cannot be met, though its texts do not show it: names that match nothing, macros that no row fits,
-and pins that hold no crossing of tracks."""
+"""What of a block is not judged, or cannot be met, though its texts do not show it: names that match nothing, wires that other readers draw
+with more metal, macros that no row fits, and pins that hold no crossing of tracks."""
 from flow_text import counted
 
 MILLIONTHS = 10 ** 6
@@ -19,6 +19,15 @@ def unmatched_lines(texts):
         why = 'no component before it has a pin of this name' if has_components else 'no component comes before it'
         lines.append(f'warning {texts.words[-1].place(at)} ( * {pin} ) of net {net} matches nothing: {why}')
     return lines
+
+
+def wiring_lines(texts):
+    """Returns a warning for each form of wiring that is there and that other readers draw with more metal."""
+    nets = texts.reader.nets
+    forms = ((nets.bends, 'bend', 'a path of SPECIALNETS has no metal at the outer corner of a bend, which other readers fill'),
+             (nets.steps, 'step', 'a step of a path to the same point has no metal, where other readers draw a square as wide as the wire'))
+    return [f'warning {texts.words[-1].place(met.at)} {why}: {counted(met.count, form)}, the first is in net {met.net}'
+            for met, form, why in forms if met.count]
 
 
 def row_fault(texts, macro):

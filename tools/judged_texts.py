@@ -3,7 +3,7 @@ from typing import List, NamedTuple, Optional
 
 from lefdef_text import NARROW, Library, Words
 from lefdef_text.def_reader import SKIPPED_SECTIONS, DefReader, units_of
-from lefdef_text.design import Design
+from lefdef_text.design import Design, Segment
 from lefdef_text.lef_reader import LefReader
 from lefdef_text.net_reader import NetReader
 
@@ -69,12 +69,32 @@ class LayerReader(LefReader):
             self.statements_of_layer.append(Statement(word, self.text.place(begin), words, gives[0] if gives else None))
 
 
+class Met:
+    """How often a form was met, and the first one: the number of its word, and its net."""
+
+    def __init__(self):
+        self.count, self.at, self.net = 0, None, None
+
+    def add(self, at, net):
+        if not self.count:
+            self.at, self.net = at, net
+        self.count += 1
+
+
+def is_open_bend(wire, following):
+    """Returns whether two wires of a path that follow one another are a bend at whose point no extension fills the outer corner."""
+    is_bend = isinstance(wire, Segment) and isinstance(following, Segment) and (wire.x1 == wire.x2) != (following.x1 == following.x2)
+    return is_bend and 2 * wire.after < wire.width
+
+
 class NotedNetReader(NetReader):
-    """Reads nets, and keeps where their terminals are, and which `( * pin )` denotes none."""
+    """Reads nets, and keeps where their terminals are, which `( * pin )` denotes none, and which wiring other readers draw otherwise: bends of
+    special nets, and steps to the same point."""
 
     def __init__(self, text, design):
         super().__init__(text, design)
         self.terminal_at, self.unmatched, self.net_name = {}, [], ''
+        self.bends, self.steps, self.has_width = Met(), Met(), True
 
     def net_entry(self, entries, is_special):
         self.net_name = self.text.words[self.text.at]
@@ -85,6 +105,25 @@ class NotedNetReader(NetReader):
         super().terminal(net, is_special)
         if not is_special:
             self.terminal_at.setdefault(next(reversed(net.terminals)), begin)
+
+    def path(self, wires, is_special):
+        first, self.has_width = len(wires), True
+        super().path(wires, is_special)
+        if is_special:
+            for number in range(first + 1, len(wires)):
+                if is_open_bend(wires[number - 1], wires[number]):
+                    self.bends.add(self.ends_at[number - 1], self.net_name)
+
+    def special_width(self):
+        width = super().special_width()
+        self.has_width = width > 0
+        return width
+
+    def path_point(self, last):
+        begin, found = self.text.at, super().path_point(last)
+        if last == found[:2] and self.has_width:
+            self.steps.add(begin, self.net_name)
+        return found
 
     def every_component(self, pin):
         found = super().every_component(pin)

@@ -53,13 +53,8 @@ class PlainNumbers:
         return value
 
     def write_numbers(self, tell):
-        """Writes the numbers that are not in what is rewritten already."""
-        rewritten = sorted((start, stop) for start, stop, _ in self.edits)
-        at = 0
-        for place, word in sorted(self.numbers.items()):
-            while at < len(rewritten) and rewritten[at][1] <= self.spans[place][0]:
-                at += 1
-            if at == len(rewritten) or self.spans[place][0] < rewritten[at][0]:
-                self.replace(place, word)
+        """Writes the numbers that are read as the units that they lie at, and tells how many."""
+        for place, word in self.numbers.items():
+            self.replace(place, word)
         if self.numbers:
             tell(f'{counted(len(self.numbers), "number")} written as the unit that each lies at, the first in line {self.line(min(self.numbers))}')

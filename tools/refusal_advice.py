@@ -1,24 +1,28 @@
-"""Why lefdef refuses a form of LEF or DEF, in the words of these formats, and which tool helps."""
-from lefdef_text import Layer, Macro, Site, Via, shown
+"""Why lefdef refuses a form of LEF or DEF, in the words of these formats, and which options or which tool help."""
+from lefdef_text import Layer, Macro, Rule, Site, Via, shown
 
 NO_TOOL = 'No tool rewrites it.'
+WIDE = 'lefdef --wide reads it.'
+WIDE_OF_LAYERS = 'lefdef --wide reads it, of a layer.'
+RECTILINEAR = 'lefdef --wide reads it, if it is rectilinear.'
+STRAIGHT = 'lefdef --wide reads it, if its lines are horizontal or vertical and its width is even.'
+DROPPED_MASKS = 'lefdef --wide --masks drop reads past it.'
 NO_ROW = 'No tool rewrites it; a row on which no component stands can be taken out.'
 NO_BLOCKAGE = 'No tool rewrites it; to judge the block without this blockage, take the entry out.'
-LOOSE_BLOCKAGE = 'tools/plain-def takes it out with --{0} drop, and makes a hard one of it with --{0} hard.'
+LOOSE_BLOCKAGE = 'lefdef --wide --soft drop leaves such a placement blockage out, and with --soft hard it is one as any other.'
 MORE_UNITS = 'Have the program that wrote the DEF write more units a micron, such as UNITS DISTANCE MICRONS 2000.'
-RULE = 'The wires would have the widths and spacings of a nondefault rule, which is not read.'
+RULE = 'The wires have the widths of a nondefault rule.'
 MASKS = 'The masks of a layer that is made with several are not told apart.'
 RECTANGLES = 'Metal is read as rectangles alone.'
 PATHS = 'Metal of a special net is read as paths alone.'
-PLAIN_RULE = 'tools/plain-def writes them as rectangles and vias of the widths of the rule; its spacings are not judged.'
-PLAIN_LENGTH = 'tools/plain-lef writes it if it lies at a database unit.'
+PLAIN_RULE = 'lefdef --wide reads it in NETS, by the widths of the rule; its spacings are not judged.'
+PLAIN_LENGTH = 'tools/plain-numbers writes it if it lies at a database unit.'
 FROM_QFLOW = 'tools/from-qflow writes it whole.'
 SYNTAX = 'The word is out of place, or what belongs before it is missing.'
 
 # Each form: why it is refused, and what helps.
 ADVICE = {
-    'VIARULE of a via is not supported': ('The via is generated: it has the numbers of a rule in place of rectangles.',
-                                          'tools/plain-vias writes its rectangles.'),
+    'VIARULE of a via is not supported': ('The via is generated: it has numbers in place of rectangles.', WIDE),
     **{f'{word} of a generated via is not supported': ('A generated via has its numbers, and no shapes beside them.', NO_TOOL)
        for word in ('RECT', 'POLYGON', 'PATTERNNAME', 'MASK')},
     'the cuts of a via are an odd number of units wide or high': ('The middle of the cuts of a generated via is on a database unit.', MORE_UNITS),
@@ -28,23 +32,22 @@ ADVICE = {
     'PATTERNNAME of a via is not supported': ('Its cuts are those of a pattern, which is not read.', NO_TOOL),
     'POLYGON of a via is not supported': (RECTANGLES, NO_TOOL),
     'MASK of a via is not supported': (MASKS, NO_TOOL),
-    'POLYGON of a pin is not supported': (RECTANGLES, 'tools/plain-def writes its rectangles, if it is rectilinear.'),
-    'VIA of a pin is not supported': ('The metal of a pin of the block is read as rectangles alone.', 'tools/plain-def writes its rectangles.'),
-    'MASK of a pin is not supported': (MASKS, NO_TOOL),
-    'MASK of tracks is not supported': (MASKS, NO_TOOL),
+    'POLYGON of a pin is not supported': (RECTANGLES, RECTILINEAR),
+    'VIA of a pin is not supported': ('The metal of a pin of the block is read as rectangles alone.', WIDE),
+    'MASK of a pin is not supported': (MASKS, DROPPED_MASKS),
+    'MASK of tracks is not supported': (MASKS, DROPPED_MASKS),
     'SOFT of a blockage is not supported': ('A soft blockage keeps components out when a block is placed first, and not later.',
-                                            LOOSE_BLOCKAGE.format('soft')),
+                                            LOOSE_BLOCKAGE),
     'PARTIAL of a blockage is not supported': ('A partial blockage limits how full its place is when a block is placed first, which is not judged.',
-                                               LOOSE_BLOCKAGE.format('partial')),
-    'COMPONENT of a blockage is not supported': ('The blockage goes with a component.', NO_BLOCKAGE),
-    'SLOTS of a blockage is not supported': ('The blockage keeps out slots, and no wires.', NO_BLOCKAGE),
-    'FILLS of a blockage is not supported': ('The blockage keeps out fills, and no wires.', NO_BLOCKAGE),
+                                               LOOSE_BLOCKAGE),
+    'COMPONENT of a blockage is not supported': ('The blockage goes with a component.', WIDE),
+    'SLOTS of a blockage is not supported': ('The blockage keeps out slots, and no wires.', WIDE_OF_LAYERS),
+    'FILLS of a blockage is not supported': ('The blockage keeps out fills, and no wires.', WIDE_OF_LAYERS),
     'EXCEPTPGNET of a blockage is not supported': ('The blockage does not keep out power and ground nets.', NO_BLOCKAGE),
     'SPACING of a blockage is not supported': ('The blockage has a spacing of its own.', NO_BLOCKAGE),
     'DESIGNRULEWIDTH of a blockage is not supported': ('The blockage has a width of its own, from which its spacing follows.', NO_BLOCKAGE),
-    'MASK of a blockage is not supported': (MASKS, NO_BLOCKAGE),
-    'POLYGON of a blockage is not supported': ('A blockage is read as rectangles alone.',
-                                               'tools/plain-def writes its rectangles, if it is rectilinear.'),
+    'MASK of a blockage is not supported': (MASKS, 'lefdef --wide --masks drop reads past it, of a layer.'),
+    'POLYGON of a blockage is not supported': ('A blockage is read as rectangles alone.', RECTILINEAR),
     'MUSTJOIN is not supported': ('The entry is of pins of one component that have to be joined, and of no net with a name.', NO_TOOL),
     'NONDEFAULTRULE of a net is not supported': (RULE, PLAIN_RULE),
     'TAPERRULE of a net is not supported': (RULE, NO_TOOL),
@@ -54,14 +57,14 @@ ADVICE = {
     'STYLE of a net is not supported': ('A style gives wires ends of another form.', NO_TOOL),
     'STYLE in wiring is not supported': ('A style gives wires ends of another form.', NO_TOOL),
     'VIRTUAL of a net is not supported': ('A virtual connection joins two points without metal.', NO_TOOL),
-    'VIRTUAL in wiring is not supported': ('A virtual connection joins two points without metal.', NO_TOOL),
-    'MASK of a net is not supported': (MASKS, NO_TOOL),
-    'MASK in wiring is not supported': (MASKS, NO_TOOL),
-    'RECT of a net is not supported': (PATHS, 'tools/plain-def writes it as wires.'),
-    'POLYGON of a net is not supported': (PATHS, 'tools/plain-def writes it as wires, if it is rectilinear.'),
-    'VIA of a net is not supported': (PATHS, 'tools/plain-def writes it as wires.'),
-    'DO in wiring is not supported': ('A via is repeated in columns and rows.', 'tools/plain-def writes each via, in SPECIALNETS.'),
-    'the orientation of a via in wiring is not supported': ('The via is turned or mirrored.', 'tools/plain-def writes it as a via of its own.'),
+    'VIRTUAL in wiring is not supported': ('A virtual connection joins two points without metal.', 'lefdef --wide reads it in NETS.'),
+    'MASK of a net is not supported': (MASKS, 'lefdef --wide --masks drop reads past it in SPECIALNETS.'),
+    'MASK in wiring is not supported': (MASKS, DROPPED_MASKS),
+    'RECT of a net is not supported': (PATHS, WIDE),
+    'POLYGON of a net is not supported': (PATHS, RECTILINEAR),
+    'VIA of a net is not supported': (PATHS, WIDE),
+    'DO in wiring is not supported': ('A via is repeated in columns and rows.', 'lefdef --wide reads it in SPECIALNETS.'),
+    'the orientation of a via in wiring is not supported': ('The via is turned or mirrored.', 'lefdef --wide reads one orientation behind a via.'),
     'a die area that is no rectangle is not supported': ('The die is read as one rectangle.', NO_TOOL),
     'a die area of other than two or four points is not supported': ('The die is read as one rectangle.', NO_TOOL),
     'a row is turned': ('A row is N, S, FN or FS.', NO_ROW),
@@ -69,25 +72,33 @@ ADVICE = {
     'the step of a row is not the width of its site': ('Sites of a row abut.', NO_ROW),
     'the direction DIAG45 is not supported': ('Wires are horizontal or vertical.', NO_TOOL),
     'the direction DIAG135 is not supported': ('Wires are horizontal or vertical.', NO_TOOL),
-    'POLYGON in a geometry is not supported': (RECTANGLES, 'tools/plain-lef writes its rectangles, if it is rectilinear.'),
-    'PATH in a geometry is not supported': (RECTANGLES, NO_TOOL),
-    'VIA in a geometry is not supported': (RECTANGLES, NO_TOOL),
-    'RECT MASK is not supported': (MASKS, NO_TOOL),
-    'RECT ITERATE is not supported': ('A rectangle is repeated in columns and rows.', 'tools/plain-lef writes each rectangle.'),
-    'POLYGON MASK is not supported': (MASKS, NO_TOOL),
-    'POLYGON ITERATE is not supported': ('A polygon is repeated in columns and rows.', 'tools/plain-lef writes each rectangle.'),
+    'POLYGON in a geometry is not supported': (RECTANGLES, RECTILINEAR),
+    'PATH in a geometry is not supported': (RECTANGLES, STRAIGHT),
+    'PATH with a slanted line is not supported': (RECTANGLES, NO_TOOL),
+    'PATH of an odd width is not supported': ('The middle line of a path is on a millionth of a micron, so the width is even.', NO_TOOL),
+    'PATH on a cut layer without a WIDTH is not supported': ('No wire runs on a layer of cuts, so it has no width for a path.', NO_TOOL),
+    'PATH behind a WIDTH that is no length above 0 is not supported': ('A WIDTH holds up to the next WIDTH or LAYER.', NO_TOOL),
+    'PATH beyond 2,000 metres is not supported': ('The path reaches half its width beyond its points.', NO_TOOL),
+    'PATH MASK is not supported': (MASKS, DROPPED_MASKS),
+    'PATH ITERATE is not supported': ('A path is repeated in columns and rows.', NO_TOOL),
+    'VIA in a geometry is not supported': (RECTANGLES, WIDE),
+    'RECT MASK is not supported': (MASKS, DROPPED_MASKS),
+    'RECT ITERATE is not supported': ('A rectangle is repeated in columns and rows.', WIDE),
+    'POLYGON MASK is not supported': (MASKS, DROPPED_MASKS),
+    'VIA MASK is not supported': (MASKS, DROPPED_MASKS),
     'POLYGON with a slanted side is not supported': (RECTANGLES, NO_TOOL),
-    'EXCEPTPGNET is not supported': ('The obstruction does not keep out power and ground nets.', NO_TOOL),
+    'EXCEPTPGNET is not supported': ('The obstruction does not keep out power and ground nets.', 'lefdef --wide reads it as one that does.'),
     'SITE appears twice': ('A macro has one site.', NO_TOOL),
     'SITE of a macro with more than a name': ('A macro has one site, and no pattern of sites.', NO_TOOL),
     'a number with zeros after a point': ('A number of a DEF is a whole number of database units.', FROM_QFLOW),
     'a number with digits after a point': ('A number of a DEF is a whole number of database units.', MORE_UNITS),
-    'a number with an exponent': ('A number of a DEF is a sign and digits.', 'tools/plain-def writes it, if it lies at a whole number.'),
+    'a number with an exponent': ('A number of a DEF is a sign and digits.', 'tools/plain-numbers writes it, if it lies at a whole number.'),
     'a length with an exponent': ('A length of a LEF is a sign, digits and maybe a point.', PLAIN_LENGTH),
     'a length of more than six decimals': ('It is finer than a millionth of a micron.', PLAIN_LENGTH),
     'NotOnUnit': ('No length is rounded.', MORE_UNITS),
     'OddWidth': ('The middle line of a wire is on a database unit, so the width is even.', MORE_UNITS),
     'the width of a wire is odd': ('The middle line of a wire is on a database unit, so the width is even.', MORE_UNITS),
+    'the width of a rule is odd where a wire has it': ('The middle line of a wire is on a database unit, so the width is even.', MORE_UNITS),
     'a wire has the width 0': ('A path of the width 0 has vias alone.', NO_TOOL),
     'a wire is neither horizontal nor vertical': ('Wires at an angle are not read.', NO_TOOL),
     'a via does not join two routing layers': ('A wire names it.', NO_TOOL),
@@ -98,12 +109,14 @@ ADVICE = {
     'a macro is defined twice': ('', 'Leave one of the two out.'),
     'a via is defined twice': ('', 'Leave one of the two out.'),
     'a site is defined twice': ('', 'Leave one of the two out.'),
+    'a rule is defined twice': ('', 'Leave one of the two out.'),
+    'a layer appears twice in a rule': ('A rule tells the width of a layer once.', 'Leave one of the two out.'),
     'there are more than 200,000 entries of COMPONENTS': ('', 'tools/drop-fillers takes fillers out.'),
     'the text ends too early': ('An END, a semicolon or a whole section is missing behind its last word.', ''),
     'a word is no form of a DEF': ('lefdef reads no statement and no section with this word.', NO_TOOL),
 }
 OTHER_BLOCKAGE = ('No blockage of LEF/DEF 5.8 has this word.', NO_BLOCKAGE)
-KINDS_OF_RECORDS = {'layer': Layer, 'site': Site, 'macro': Macro, 'via': Via}
+KINDS_OF_RECORDS = {'layer': Layer, 'site': Site, 'macro': Macro, 'via': Via, 'rule': Rule}
 
 
 class Advice:
@@ -132,13 +145,11 @@ class Advice:
         elif refused.kind == 'DuplicateName' and not reason:
             reason = self.first_definition(refused)
         elif self.is_before_figure(refused):
-            reason, helps = 'A status in front of a figure of a special net is not read.', 'tools/plain-def writes the figure as wires.'
+            reason, helps = 'A status in front of a figure of a special net is not read.', WIDE
         elif refused.form.endswith('was expected'):
             reason = SYNTAX
-        if refused.form.startswith('VIARULE of a via') and self.has_pattern(refused):
-            reason, helps = 'The via is generated, and a pattern leaves cuts of it out.', NO_TOOL
-        if refused.kind == 'BadVia' and self.why_not_good.get(refused.word, '').endswith(' VIARULE'):
-            helps = 'tools/plain-lef writes the rectangles of a generated via.'
+        if refused.kind == 'BadVia' and self.why_not_good.get(refused.word, '').startswith('it has the statement '):
+            helps = DROPPED_MASKS if self.why_not_good[refused.word].endswith(' MASK') else WIDE
         return ''.join(f' {sentence}' for sentence in (reason, helps) if sentence)
 
     def is_before_figure(self, refused):
@@ -146,12 +157,6 @@ class Advice:
         words = self.texts[refused.path].words
         return (refused.form == 'the name of a layer was expected' and refused.word == '+'
                 and words[refused.at + 1].upper() in ('SHAPE', 'RECT', 'POLYGON', 'VIA'))
-
-    def has_pattern(self, refused):
-        """Returns whether the entry of a generated via has + PATTERN."""
-        text = self.texts[refused.path]
-        end = text.words.index(';', refused.at)
-        return any(text.words[at - 1] == '+' and text.words[at].upper() == 'PATTERN' for at in range(refused.at, end))
 
     def place_of(self, kind, name):
         """Returns the place at which a layer, site, macro or via of the LEFs is defined, or None."""

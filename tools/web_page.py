@@ -13,7 +13,9 @@ TOP = os.path.dirname(os.path.dirname(os.path.abspath(__file__)))
 VIEWER = (
     'loose_grid', 'block', 'dust', 'viewport', 'block_drawing', 'name_room', 'block_labels', 'viewer', 'controls', 'violation_list', 'search', 'switches', 'show_block')
 PAGE = ('asker', 'texts', 'text_list', 'profile_choice', 'answer_view', 'page')
-WORKER = ('columns', 'words', 'rects', 'lef', 'def', 'nets', 'distances', 'missing_joints', 'open_pieces', 'off_sites', 'marks', 'block_data', 'module', 'worker')
+WORKER = (
+    'columns', 'words', 'rects', 'polygons', 'generated_vias', 'lef', 'def', 'nets', 'wide_lef', 'wide_def', 'wide_nets', 'distances', 'missing_joints',
+    'open_pieces', 'off_sites', 'marks', 'block_data', 'module', 'worker')
 POLICY = "default-src 'none'; script-src 'sha256-{script}' 'wasm-unsafe-eval'; style-src 'sha256-{style}'; worker-src blob:; base-uri 'none'; form-action 'none'"
 EXAMPLE = re.compile(r'^    \$ (?:.* && )?\./lefdef (\S+) (examples/\S+\.def) (examples/\S+\.lef)$', re.MULTILINE)
 

@@ -74,8 +74,8 @@ class DefReader {
 
   read() {
     const { words } = this;
-    const nets = new NetReader(words, this.design);
-    const forms = { DESIGN: () => this.name(), DIEAREA: () => this.die(), ROW: () => this.row(), TRACKS: () => this.tracks() };
+    const nets = this.netReader();
+    const forms = this.forms();
     const entries = {
       VIAS: () => this.via(), COMPONENTS: () => this.component(), PINS: () => this.pin(), BLOCKAGES: () => this.blockage(),
       SPECIALNETS: () => nets.entry(true), NETS: () => nets.entry(false),
@@ -90,6 +90,14 @@ class DefReader {
     }
     this.joinPins();
     return this.design;
+  }
+
+  netReader() {
+    return new NetReader(this.words, this.design);
+  }
+
+  forms() {
+    return { DESIGN: () => this.name(), DIEAREA: () => this.die(), ROW: () => this.row(), TRACKS: () => this.tracks() };
   }
 
   // Gives each pin of the design that no net lists the net that it names, where that is an entry.
@@ -151,10 +159,17 @@ class DefReader {
     const count = words.whole();
     words.at++;
     const step = words.whole();
-    const layers = [];
-    if (words.takeIf('LAYER')) while (!words.isAt(';')) layers.push(words.take());
+    const layers = this.tracksLayers();
     words.at++;
     this.design.tracks.push({ axis, start, step, count, layers });
+  }
+
+  // Takes the layers of tracks, up to their semicolon.
+  tracksLayers() {
+    const { words } = this;
+    const layers = [];
+    if (words.takeIf('LAYER')) while (!words.isAt(';')) layers.push(words.take());
+    return layers;
   }
 
   layer() {
@@ -202,17 +217,28 @@ class DefReader {
     this.clauses((word) => {
       if (word === 'NET') pin.net = words.take();
       else if (word === 'PORT') port(true);
-      else if (word === 'LAYER') this.portLayer(port(false));
-      else if (PLACE_WORDS.has(word)) port(false).place = this.place();
-      else this.skipClause();
+      else this.portClause(word, () => port(false));
     });
     design.pins.set(pin.name, pin);
   }
 
+  // Takes the rest of a clause of a port, which `port` returns.
+  portClause(word, port) {
+    if (word === 'LAYER') this.portLayer(port());
+    else if (PLACE_WORDS.has(word)) port().place = this.place();
+    else this.skipClause();
+  }
+
+  // Takes the layer of a shape of a port, and what may stand behind it.
+  layerOfPort() {
+    const layer = this.layer();
+    for (const word of ['SPACING', 'DESIGNRULEWIDTH']) if (this.words.takeIf(word)) this.words.whole();
+    return layer;
+  }
+
   portLayer(port) {
     const { words } = this;
-    const layer = this.layer();
-    for (const word of ['SPACING', 'DESIGNRULEWIDTH']) if (words.takeIf(word)) words.whole();
+    const layer = this.layerOfPort();
     const rect = words.corners(this.number);
     if (layer.hasMetal) port.shapes.push({ layer, rect });
   }

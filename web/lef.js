@@ -39,7 +39,7 @@ class LefReader {
 
   read() {
     const { words } = this;
-    const forms = { LAYER: () => this.layer(), VIA: () => this.via(), SITE: () => this.site(), MACRO: () => this.macro() };
+    const forms = this.forms();
     while (words.more()) {
       const word = words.keyword();
       if (Object.hasOwn(forms, word)) forms[word]();
@@ -51,6 +51,10 @@ class LefReader {
     }
   }
 
+  forms() {
+    return { LAYER: () => this.layer(), VIA: () => this.via(), SITE: () => this.site(), MACRO: () => this.macro() };
+  }
+
   skipNamed(name) {
     const { words } = this;
     while (words.keyword() !== 'END' || words.word(words.at) !== name);
@@ -58,13 +62,13 @@ class LefReader {
   }
 
   // Takes the statements of a block up to its END and its name. Each is taken by the act of `parts` for its first word, and else passed over.
-  block(parts) {
+  block(parts, name) {
     const { words } = this;
     for (let word = words.keyword(); word !== 'END'; word = words.keyword()) {
       if (Object.hasOwn(parts, word)) parts[word]();
       else if (word !== ';') words.skipStatement();
     }
-    words.take();
+    if (words.take() !== name) throw new Error(`there is no END of ${name}`);
   }
 
   layer() {
@@ -77,7 +81,7 @@ class LefReader {
     this.block({
       TYPE: keep('kind'), DIRECTION: keep('direction'), WIDTH: () => this.layerLength(layer, 'width'), SPACING: () => this.layerLength(layer, 'spacing'),
       SPACINGTABLE: () => this.spacingTable(layer),
-    });
+    }, layer.name);
     layer.isRouting = layer.kind === 'ROUTING';
     layer.hasMetal = layer.isRouting || layer.kind === 'CUT';
     layer.width = layer.isRouting ? layer.width : 0;
@@ -113,11 +117,16 @@ class LefReader {
     return this.library.layers.get(this.words.take());
   }
 
+  // Takes the words between a via's name and its statements, each once.
+  flagsOfVia() {
+    const given = new Set();
+    while (['DEFAULT', 'TOPOFSTACKONLY', 'GENERATED'].includes(this.words.peek()) && !given.has(this.words.peek())) given.add(this.words.keyword());
+  }
+
   via() {
     const { words, library } = this;
     const name = words.take();
-    const given = new Set();
-    while (['DEFAULT', 'TOPOFSTACKONLY', 'GENERATED'].includes(words.peek()) && !given.has(words.peek())) given.add(words.keyword());
+    this.flagsOfVia();
     const shapes = [];
     let [layer, isGood] = [null, true];
     const spoil = () => {
@@ -135,7 +144,7 @@ class LefReader {
         else if (layer.hasMetal) shapes.push({ layer, rect: words.corners(this.number) });
         words.skipStatement();
       },
-    });
+    }, name);
     const joined = isGood ? joinedLayers(library, name, shapes) : null;
     library.vias.set(name, { name, ...joined, shapes: joined ? shapes : [] });
   }
@@ -154,7 +163,7 @@ class LefReader {
     const { words, library } = this;
     const name = words.take();
     let size = null;
-    this.block({ SIZE: () => { size = this.size(); } });
+    this.block({ SIZE: () => { size = this.size(); } }, name);
     if (!library.sites.has(name)) library.sites.set(name, { name, ...size });
   }
 
@@ -177,7 +186,7 @@ class LefReader {
         words.at++;
       },
       PIN: () => this.pin(macro.pins), OBS: () => macro.obstructions.push(...this.geometry()), DENSITY: () => words.skipTo('END'), TIMING: () => words.skipBlock('TIMING'),
-    });
+    }, macro.name);
     for (const { shapes } of macro.pins.values()) shift(shapes, origin);
     shift(macro.obstructions, origin);
     library.macros.set(macro.name, macro);
@@ -192,7 +201,7 @@ class LefReader {
         words.at++;
       },
       PORT: () => pin.shapes.push(...this.geometry()),
-    });
+    }, pin.name);
     pins.set(pin.name, pin);
   }
 

@@ -48,8 +48,14 @@ class NetReader {
       const word = words.keyword();
       if (word === 'SHIELD' && isSpecial) words.take();
       if (['ROUTED', 'FIXED', 'COVER', isSpecial ? 'SHIELD' : 'NOSHIELD'].includes(word)) this.wiring(entry, section.wires, isSpecial);
-      else while (!words.isAt('+') && !words.isAt(';')) words.take();
+      else this.otherClause(word, entry, section.wires, isSpecial);
     }
+  }
+
+  // Takes a clause that is no wiring.
+  otherClause() {
+    const { words } = this;
+    while (!words.isAt('+') && !words.isAt(';')) words.take();
   }
 
   terminal(entry, isSpecial) {
@@ -82,16 +88,24 @@ class NetReader {
   path(entry, wires, isSpecial) {
     const { words } = this;
     const layer = this.design.library.layers.get(words.take());
-    const width = isSpecial ? this.specialWidth() : layer.width;
-    if (!isSpecial) words.takeIf('TAPER');
-    const path = { entry, wires, isSpecial, layer, width, segment: null, ...this.point(0, 0) };
-    for (;;) {
-      if (words.isAt('(')) this.segment(path);
-      else if (words.isAt('+') || words.isAt(';') || words.peek() === 'NEW') break;
-      else if (!isSpecial && words.takeIf('RECT')) this.add(path, [{ layer: path.layer, rect: this.patch() }]);
-      else this.via(path);
-    }
+    const widthOn = isSpecial ? null : this.widths();
+    const width = isSpecial ? this.specialWidth() : widthOn(layer);
+    const path = { entry, wires, isSpecial, layer, width, widthOn, segment: null, ...this.point(0, 0) };
+    while (!words.isAt('+') && !words.isAt(';') && words.peek() !== 'NEW') this.item(path);
     this.settle(path);
+  }
+
+  // Takes what stands behind the layer of a path of NETS, and returns the width of its wires on each layer.
+  widths() {
+    this.words.takeIf('TAPER');
+    return (layer) => layer.width;
+  }
+
+  item(path) {
+    const { words } = this;
+    if (words.isAt('(')) this.segment(path);
+    else if (!path.isSpecial && words.takeIf('RECT')) this.add(path, [{ layer: path.layer, rect: this.patch() }]);
+    else this.via(path);
   }
 
   // Adds a wire of these shapes at the point of a path.
@@ -122,12 +136,22 @@ class NetReader {
 
   // Takes the name of a via, and goes on with its other layer.
   via(path) {
-    const { words } = this;
-    const via = this.design.vias.get(words.take());
-    words.takeIf('N');
-    this.add(path, via.shapes);
+    const via = this.placedVia();
+    this.addVia(path, via);
     path.layer = path.layer === via.lower ? via.upper : via.lower;
-    if (!path.isSpecial) path.width = path.layer.width;
+    if (!path.isSpecial) path.width = path.widthOn(path.layer);
+  }
+
+  // Takes the name of a via, and N behind it, and returns the via.
+  placedVia() {
+    const via = this.design.vias.get(this.words.take());
+    this.words.takeIf('N');
+    return via;
+  }
+
+  // Adds a via at the point of a path.
+  addVia(path, via) {
+    this.add(path, via.shapes);
   }
 
   // Takes a point of a path and its extension, null where none is written; * stands for a coordinate of the point before.

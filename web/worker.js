@@ -39,12 +39,14 @@ function drawnOf(module, { command, profile }, names, lefs, def, { status, text 
 }
 
 // Returns the data of a picture.
-function pictureOf(lefs, { def, before, lines }) {
+function pictureOf({ isWide, soft }, lefs, { def, before, lines }) {
   const words = new Words(textOf(def));
   const library = new Library(unitsOf(words));
-  for (const lef of lefs) new LefReader(new Words(textOf(lef)), library).read();
-  const design = new DefReader(words, library).read();
-  return blockData(design, lines, before ? new DefReader(new Words(textOf(before)), library).read() : null);
+  const readLef = (text) => (isWide ? new WideLefReader(text, library) : new LefReader(text, library)).read();
+  const readDef = (text) => (isWide ? new WideDefReader(text, library, soft) : new DefReader(text, library)).read();
+  for (const lef of lefs) readLef(new Words(textOf(lef)));
+  const design = readDef(words);
+  return blockData(design, lines, before ? readDef(new Words(textOf(before))) : null);
 }
 
 // Returns the arrays of numbers in the data of a picture, which are handed over and not copied.
@@ -61,7 +63,7 @@ async function answer({ id, command, profile, lefs, def }) {
   const answered = asked(module, numberOf(command, profile), names, texts, read);
   postMessage({ id, answer: { ...answered, seconds: (performance.now() - began) / 1000 } });
   const drawn = drawnOf(module, { command, profile }, names, texts, read, answered);
-  const picture = drawn ? pictureOf(texts, drawn) : null;
+  const picture = drawn ? pictureOf(profile, texts, drawn) : null;
   postMessage({ id, picture }, picture ? buffersOf(picture) : []);
 }
 

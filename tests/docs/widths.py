@@ -2,12 +2,12 @@
 
     for line, width in wide(path, text, most):     each line of a .rt or .antt that is wider than this, by its number
 
-The width of a line is its length without the text inside quotation marks: no blank can be put into a word that stands there. Imports and the
-lemmas that an attribute `tactic` names may be as wide as they are: `rt fmt` writes them in one line.
+The width of a line is its length without the text inside quotation marks: no blank can be put into a word that stands there. Imports, the
+lemmas that an attribute `tactic` names and what a line `unfolding` names may be as wide as they are: they have to be in one line.
 """
 import re
 
-IN_ONE_LINE = re.compile(r"\s*(?:(?:pub(?:\([a-z]+\))? )?(?:ghost )?use |#!?\[tactic\()")
+IN_ONE_LINE = re.compile(r"\s*(?:(?:pub(?:\([a-z]+\))? )?(?:ghost )?use |#!?\[tactic\(|unfolding )")
 # A comment, or a literal with the text inside its quotation marks.
 RUST = re.compile(r"""//[^\n]*|\bb?r(?P<hashes>#*)"(?P<raw>.*?)"(?P=hashes)|"(?P<text>(?:\\.|[^"\\])*)"|'(?P<letter>\\x[0-9a-fA-F]{2}|\\.|[^'\\\n])'""", re.DOTALL)
 ANTT = re.compile(r"""(?<![^\s(){}.;,@])--(?: [^\n]*)?$|"(?P<text>(?:\\.|[^"\\\n])*)\"""", re.MULTILINE)

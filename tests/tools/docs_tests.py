@@ -32,7 +32,7 @@ def said(check, copy):
 
 
 class DoctoredTests(unittest.TestCase):
-    crates = ('leg_lex', 'leg_geom', 'leg_sweep', 'leg_design_common', 'leg_design_floorplan', 'leg_design_nets')
+    crates = ('leg_lex', 'leg_geom', 'leg_sweep', 'leg_design_common', 'leg_design_floorplan', 'leg_design_wires', 'leg_design_nets')
     parts = ('README.md', 'docs')
 
     def setUp(self):
@@ -63,7 +63,7 @@ class ProofsTests(DoctoredTests):
 
     def test_a_heading_of_several_crates_one_of_which_is_none(self):
         lines = self.found((PROOFS, '## leg_design_common, ', '## leg_design_commons, '))
-        self.assert_said(lines, "'leg_design_commons, leg_design_floorplan and leg_design_nets' is no crate", 'there is no section on leg_design_nets')
+        self.assert_said(lines, "'leg_design_commons, leg_design_floorplan, leg_design_wires and leg_design_nets' is no crate", 'there is no section on leg_design_nets')
 
     def test_a_crate_that_nothing_is_said_of(self):
         self.copy.write('crates.txt', self.copy.read('crates.txt') + 'leg_new:\n')

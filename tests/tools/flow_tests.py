@@ -1,5 +1,5 @@
-"""Tests of tools/from-qflow, ease-routing, plain-vias and drop-fillers; of what holds of these and of plain-def; and of examples/from-verilog/run as far
-as it needs no other program."""
+"""Tests of tools/from-qflow, ease-routing and drop-fillers; of what holds of these and of plain-numbers; and of examples/from-verilog/run as far as it
+needs no other program."""
 import gzip
 import os
 import re
@@ -285,34 +285,6 @@ END DESIGN
         self.assertEqual(self.refused('ease-routing', self.BLOCK.replace('( u2 A )', '( u2 B )'), STANDARD), 'in.def:14: macro INV has no pin B')
 
 
-class PlainViasTests(FlowCase):
-    def test_generated_vias_become_rectangles(self):
-        out, err = self.edited('plain-vias', GENERATED)
-        # Three cuts of 20 with gaps of 10 are 80 wide, two of 40 with a gap of 30 are 110 high; their middle is at 10 0.
-        vias = self.design(out).vias
-        self.assertEqual([(layer, tuple(rect)) for layer, rect in vias['made'].shapes], [
-            ('m1', (-34, -59, 56, 63)), ('m2', (-34, -59, 60, 67)),
-            ('v1', (-30, -55, -10, -15)), ('v1', (0, -55, 20, -15)), ('v1', (30, -55, 50, -15)),
-            ('v1', (-30, 15, -10, 55)), ('v1', (0, 15, 20, 55)), ('v1', (30, 15, 50, 55))])
-        self.assertTrue(vias['made'].is_good())
-        self.assertEqual([(layer, tuple(rect)) for layer, rect in vias['one'].shapes],
-                         [('m1', (-15, -26, 15, 26)), ('m2', (-17, -28, 17, 28)), ('v1', (-10, -20, 10, 20))])
-        self.assertTrue(vias['one'].is_good())
-        self.assertIn('- kept + RECT m1 ( -50 -50 ) ( 50 50 ) ;', out)
-        self.assertIn('2 generated vias written out', err)
-
-    def test_what_cannot_be_written_out_is_refused(self):
-        for old, new, why in (
-                ('+ ROWCOL 2 3', '+ ROWCOL 2 3 + PATTERN 2_F', 'in.def:8: a via with + PATTERN cannot be written out'),
-                ('+ CUTSIZE 20 40 + LAYERS m1 v1 m2 + CUTSPACING 10 30\n', '+ CUTSIZE 20 40 + LAYERS m1 v1 m2\n', 'in.def:7: via made has no + CUTSPACING, at -'),
-                ('+ CUTSIZE 20 40 + LAYERS m1 v1 m2 + CUTSPACING 10 30\n', '+ CUTSIZE 21 40 + LAYERS m1 v1 m2 + CUTSPACING 10 30\n',
-                 'in.def:7: via made: its middle lies between two database units, at -'),
-                ('+ ORIGIN 10 0', '+ ORIGIN 10', 'in.def:8: 2 numbers expected here, at 10'),
-                ('+ ORIGIN 10 0', '+ ORIGIN 10 x', 'in.def:8: a whole number was expected, not x')):
-            with self.subTest(new=new):
-                self.assertEqual(self.refused('plain-vias', GENERATED.replace(old, new)), why)
-
-
 class DropFillersTests(FlowCase):
     def components(self, out, library):
         return list(self.design(out, STANDARD, library).components)
@@ -343,7 +315,7 @@ class DropFillersTests(FlowCase):
 
 class OutputTests(FlowCase):
     """What holds of all tools that edit a DEF."""
-    TOOLS = (('from-qflow', [STANDARD]), ('ease-routing', [STANDARD]), ('plain-vias', []), ('drop-fillers', [STANDARD]), ('plain-def', [STANDARD]))
+    TOOLS = (('from-qflow', [STANDARD]), ('ease-routing', [STANDARD]), ('drop-fillers', [STANDARD]), ('plain-numbers', [STANDARD]))
 
     def test_nothing_is_overwritten_unasked(self):
         for tool, libraries in self.TOOLS:

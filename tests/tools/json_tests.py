@@ -16,7 +16,7 @@ TOP = os.path.normpath(os.path.join(os.path.dirname(os.path.abspath(__file__)), 
 CASES = os.path.join(TOP, 'tests', 'program')
 sys.path.insert(0, os.path.join(TOP, 'tools'))
 import lefdef_text  # noqa: E402
-from lefdef_text import NotRun, Refused, read_answer  # noqa: E402
+from lefdef_text import NARROW, NotRun, Refused, read_answer  # noqa: E402
 from lefdef_text import lines  # noqa: E402
 from lefdef_text.answers import answer_of  # noqa: E402
 
@@ -139,7 +139,7 @@ class JsonTests(Room):
             after = libraries.pop(0) if command == 'compare' else None
             with self.subTest(case=name):
                 asked = unittest.mock.Mock(design=design, libraries=libraries, answer=path, messages=None, after=after)
-                found = [json.loads(json.dumps(line)) for line in to_json.objects(asked)]
+                found = [json.loads(json.dumps(line)) for line in to_json.objects(asked, NARROW)]
                 answer = read_answer(path)
                 designs = [line for line in found if line['kind'] == 'design']
                 self.assertEqual([line['text'] for line in found if line not in designs], [line.text for line in answer.lines])

@@ -13,6 +13,7 @@ from doctored import TOP, expressions, script
 judged = script('tools/judged')
 
 from judged_block import Lines, microns  # noqa: E402
+from lefdef_text import NARROW, Profile  # noqa: E402
 from lefdef_text.design import Tracks  # noqa: E402
 
 EXPRESSIONS = expressions('What is judged')
@@ -58,10 +59,10 @@ class Room(unittest.TestCase):
             file.write(text)
         return name
 
-    def lines(self, library, block=None, kind=''):
+    def lines(self, library, block=None, kind='', profile=NARROW):
         """Returns the lines on a library and maybe a block, those of one kind alone where it is named."""
         self.write('tech.lef', library)
-        lines, status = judged.lines_of(block and self.write('block.def', block), ['tech.lef'])
+        lines, status = judged.lines_of(block and self.write('block.def', block), ['tech.lef'], profile)
         self.assertEqual(status, 0)
         for line in lines:
             self.assertEqual(len([it for it in EXPRESSIONS if re.fullmatch(it, line)]), 1, line)
@@ -221,8 +222,68 @@ class BlockTests(Room):
         self.assertFalse(lines.cross(21, 29) or lines.cross(31, 1_000_000_000) or lines.cross(-4, 9))
 
 
+class WiringTests(Room):
+    """Wiring that other readers draw with more metal, in both profiles."""
+    BEND = 'a path of SPECIALNETS has no metal at the outer corner of a bend, which other readers fill'
+    STEP = 'a step of a path to the same point has no metal, where other readers draw a square as wide as the wire'
+
+    def warnings(self, special='', nets=''):
+        """Returns the warnings on wirings of the special nets s0, s1 .. and of the nets n0, n1 .., a line of the block each."""
+        sections = [f'{name} {len(wirings)} ;\n' + ''.join(f'- {letter}{k} {it} ;\n' for k, it in enumerate(wirings)) + f'END {name}\n'
+                    for name, letter, wirings in (('SPECIALNETS', 's', special), ('NETS', 'n', nets))]
+        block = f'{HEAD}{TRACKS}{"".join(sections)}END DESIGN\n'
+        found = [self.lines(LAYERS + VIA + CELLS, block, 'warning', profile) for profile in (NARROW, Profile(is_wide=True))]
+        self.assertEqual(*found)
+        return found[0]
+
+    def test_bends_of_special_nets(self):
+        paths = ('+ ROUTED m1 100 ( 0 0 ) ( 500 0 )', '+ ROUTED m1 100 + SHAPE RING ( 0 0 )\n ( 500 * ) ( * 500 )\n ( 0 * )',
+                 '+ FIXED m2 2 ( 0 0 ) ( 0 9 ) NEW m2 2 ( 0 0 ) ( 0 9 ) ( 9 9 )')
+        self.assertEqual(self.warnings(paths), [f'warning block.def:10 {self.BEND}: 3 bends, the first is in net s1'])
+        self.assertEqual(self.warnings(paths[2:]), [f'warning block.def:8 {self.BEND}: 1 bend, the first is in net s0'])
+
+    def test_bends_whose_corner_has_metal(self):
+        for bend, is_open in (('( 500 0 )', True), ('( 500 0 0 )', True), ('( 500 0 49 )', True), ('( 500 0 50 )', False), ('( 500 0 60 )', False),
+                              ('( 500 0 ) ( * * 50 )', False), ('( 500 0 ) ( 500 0 )', True)):
+            with self.subTest(bend=bend):
+                found = self.warnings([f'+ ROUTED m1 100 ( 0 0 ) {bend} ( 500 500 )'])
+                self.assertEqual([line for line in found if self.BEND in line] != [], is_open)
+
+    def test_what_is_no_bend_of_a_special_net(self):
+        special = ('+ ROUTED m1 100 ( 0 0 ) ( 500 0 ) ( 900 0 ) ( 100 0 )', '+ ROUTED m1 100 ( 0 0 ) ( 500 0 ) NEW m1 100 ( 500 0 ) ( 500 500 )',
+                   '+ ROUTED m1 100 ( 0 0 ) ( 500 0 ) V12 ( 500 500 )', '+ ROUTED m1 0 ( 0 0 ) V12')
+        self.assertEqual(self.warnings(special, ['+ ROUTED m1 ( 0 0 ) ( 500 0 ) ( 500 500 )']), [])
+
+    def test_steps_to_the_same_point(self):
+        nets = '+ ROUTED m1 ( 10 20 ) ( 50 20 )', '+ ROUTED m1 ( 10 20 )\n ( * * )\n NEW m1 ( 10 20 ) ( 10 20 5 ) V12 ( 10 * )'
+        self.assertEqual(self.warnings((), nets), [f'warning block.def:12 {self.STEP}: 3 steps, the first is in net n1'])
+        self.assertEqual(self.warnings(['+ ROUTED m1 100 ( 10 20 ) ( 10 20 )'], ['+ ROUTED m1 ( 10 20 ) ( * * )']),
+                         [f'warning block.def:8 {self.STEP}: 2 steps, the first is in net s0'])
+
+    def test_what_is_no_step_to_the_same_point(self):
+        self.assertEqual(self.warnings(['+ ROUTED m1 0 ( 10 20 ) ( 10 20 ) V12 ( * * )'],
+                                       ['+ ROUTED m1 ( 10 20 ) NEW m1 ( 10 20 ) ( 50 20 ) ( 10 20 ) V12 NEW m1 ( 10 20 )']), [])
+
+    def test_both_come_behind_names_that_match_nothing(self):
+        self.assertEqual([line.partition(':')[2] for line in self.warnings(['( * A ) + ROUTED m1 100 ( 0 0 ) ( 500 0 ) ( 500 500 ) ( 500 500 )'])],
+                         ['8 ( * A ) of net s0 matches nothing: no component comes before it', f'8 {self.BEND}: 1 bend, the first is in net s0',
+                          f'8 {self.STEP}: 1 step, the first is in net s0'])
+
+    def test_figures_and_virtual_connections_of_the_wide_profile(self):
+        special = '+ RECT m1 ( 0 0 ) ( 100 100 ) + POLYGON m1 ( 0 0 ) ( 9 0 ) ( 9 10 ) ( 0 10 ) + VIA V12 ( 5 5 ) ( 5 5 )'
+        nets = 'NETS 1 ;\n- n + ROUTED m1 ( 5 5 ) VIRTUAL ( 5 5 ) ;\nEND NETS\n'
+        block = f'{HEAD}{TRACKS}SPECIALNETS 1 ;\n- s {special} ;\nEND SPECIALNETS\n{nets}END DESIGN\n'
+        self.assertEqual(self.lines(LAYERS + VIA + CELLS, block, 'warning', Profile(is_wide=True)), [])
+
+
 class PastTests(Room):
     """What is read past, by its form."""
+
+    def test_widths_of_paths(self):
+        library = LAYERS + 'MACRO A SIZE 1 BY 1 ; OBS LAYER m1 ; WIDTH 0.4 ; PATH 0 0 1 0 ; LAYER well ; WIDTH 1 ; PATH 0 ; END END A\n'
+        self.assertEqual(self.lines(library, kind='past', profile=Profile(is_wide=True)), ['past tech.lef:8 1 OBS PATH on a layer without metal'])
+        narrow = library.replace('PATH 0 0 1 0', 'RECT 0 0 1 1')
+        self.assertEqual(self.lines(narrow, kind='past'), ['past tech.lef:8 2 OBS WIDTH', 'past tech.lef:8 1 OBS PATH on a layer without metal'])
 
     def test_forms_of_a_library(self):
         library = '''VERSION 5.8 ; ;

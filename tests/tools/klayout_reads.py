@@ -2,7 +2,8 @@
 
 `asked` is a file with a list of cases in JSON, each with a database, a DEF, its LEFs and its units a micron; the answers go to the file
 `answers`: for each case the cells, the categories with their items, the boxes of the items in database units, and for each layer the
-area of metal, and the area that is metal in one of KLayout's layout and the rectangles of the case, but not in both.
+area of metal, and the area that is metal in one of KLayout's layout and the rectangles of the case, but not in both; or why KLayout does not
+read the texts.
 """
 import json
 
@@ -54,7 +55,10 @@ def metal(found, case):
 
 
 def answer(case):
-    found = layout(case)
+    try:
+        found = layout(case)
+    except RuntimeError as error:
+        return {'unread': str(error)}
     return {'database': database(case['database']), 'top': [cell.name for cell in found.top_cells()], 'metal': metal(found, case)}
 
 

@@ -73,14 +73,20 @@ END NETS
 END DESIGN
 '''
 NO_TOOL = 'No tool rewrites it.'
+WIDE = 'lefdef --wide reads it.'
+RECTILINEAR = 'lefdef --wide reads it, if it is rectilinear.'
+STRAIGHT = 'lefdef --wide reads it, if its lines are horizontal or vertical and its width is even.'
+WIDE_OF_LAYERS = 'lefdef --wide reads it, of a layer.'
+DROPPED_MASKS = 'lefdef --wide --masks drop reads past it.'
+LOOSE = 'lefdef --wide --soft drop leaves such a placement blockage out, and with --soft hard it is one as any other.'
 NO_BLOCKAGE = 'No tool rewrites it; to judge the block without this blockage, take the entry out.'
 NO_ROW = 'No tool rewrites it; a row on which no component stands can be taken out.'
 MASKS = 'The masks of a layer that is made with several are not told apart.'
-RULE = 'The wires would have the widths and spacings of a nondefault rule, which is not read.'
+RULE = 'The wires have the widths of a nondefault rule.'
 RECTANGLES = 'Metal is read as rectangles alone.'
 PATHS = 'Metal of a special net is read as paths alone.'
-PLAIN_RULE = 'tools/plain-def writes them as rectangles and vias of the widths of the rule; its spacings are not judged.'
-PLAIN_LENGTH = 'tools/plain-lef writes it if it lies at a database unit.'
+PLAIN_RULE = 'lefdef --wide reads it in NETS, by the widths of the rule; its spacings are not judged.'
+PLAIN_LENGTH = 'tools/plain-numbers writes it if it lies at a database unit.'
 UNITS = 'Have the program that wrote the DEF write more units a micron, such as UNITS DISTANCE MICRONS 2000.'
 NO_LEF = 'None of the LEFs that are given defines it: check its spelling and its capitals, and which LEFs are given.'
 OUT_OF_PLACE = 'The word is out of place, or what belongs before it is missing.'
@@ -101,20 +107,18 @@ DEF_FORMS = (
     (ROW, 'r core 0 0 N DO 0 BY 1', 5, 'TooLarge', 'a row has no site.'),
     (ROW, 'r core 0 0 N DO 2000000000 BY 1', 5, 'TooLarge', 'the row ends beyond 2000000000.'),
     (ROW, 'r cores 0 0 N DO 8 BY 1', 5, 'UnknownName', f'there is no site cores. {NO_LEF}'),
-    (TRACKS, 'STEP 200 MASK 1 LAYER m2', 6, 'Unsupported', f'MASK of tracks is not supported. {MASKS} {NO_TOOL}'),
+    (TRACKS, 'STEP 200 MASK 1 LAYER m2', 6, 'Unsupported', f'MASK of tracks is not supported. {MASKS} {DROPPED_MASKS}'),
     (TRACKS, 'STEP 0 LAYER m2', 6, 'TooLarge', 'the step of tracks is too small.'),
     (TRACKS, 'STEP 2000000001 LAYER m2', 6, 'TooLarge', '2000000001 is beyond 2000000000.'),
     (TRACKS, 'STEP 200.0 LAYER m2', 6, 'BadNumber',
      'a whole number was expected, not 200.0. A number of a DEF is a whole number of database units. tools/from-qflow writes it whole.'),
     (TRACKS, 'STEP 200.5 LAYER m2', 6, 'BadNumber', f'a whole number was expected, not 200.5. A number of a DEF is a whole number of database units. {UNITS}'),
     (TRACKS, 'STEP 2e2 LAYER m2', 6, 'BadNumber',
-     'a whole number was expected, not 2e2. A number of a DEF is a sign and digits. tools/plain-def writes it, if it lies at a whole number.'),
+     'a whole number was expected, not 2e2. A number of a DEF is a sign and digits. tools/plain-numbers writes it, if it lies at a whole number.'),
     ('VIAS 1 ;', 'COMPONENTMASKSHIFT m1 ;\nVIAS 1 ;', 7, 'Unexpected',
      f'COMPONENTMASKSHIFT is no form of a DEF. lefdef reads no statement and no section with this word. {NO_TOOL}'),
     (VIA, '- big + VIARULE r + CUTSIZE 20 20 + RECT m1', 8, 'Unsupported',
-     'VIARULE of a via is not supported. The via is generated: it has the numbers of a rule in place of rectangles. tools/plain-vias writes its rectangles.'),
-    (VIA, '- big + VIARULE r + CUTSIZE 20 20 + PATTERN 1_1 + RECT m1', 8, 'Unsupported',
-     f'VIARULE of a via is not supported. The via is generated, and a pattern leaves cuts of it out. {NO_TOOL}'),
+     f'VIARULE of a via is not supported. The via is generated: it has numbers in place of rectangles. {WIDE}'),
     (VIA, '- big + PATTERNNAME a + RECT m1', 8, 'Unsupported', f'PATTERNNAME of a via is not supported. Its cuts are those of a pattern, which is not read. {NO_TOOL}'),
     (VIA, '- big + POLYGON m1 ( 0 0 ) ( 9 0 ) ( 9 9 ) + RECT m1', 8, 'Unsupported', f'POLYGON of a via is not supported. {RECTANGLES} {NO_TOOL}'),
     (VIA, '- big + RECT m1 + MASK 1', 8, 'Unsupported', f'MASK of a via is not supported. {MASKS} {NO_TOOL}'),
@@ -123,44 +127,42 @@ DEF_FORMS = (
     ('- u2 INV', '- u1 INV', 12, 'DuplicateName', 'component u1 appears twice.'),
     ('- u2 INV', '- u2 BUF', 12, 'UnknownName', f'there is no macro BUF. {NO_LEF}'),
     ('PLACED ( 400 0 )', 'PLACED ( 400 zero )', 12, 'BadNumber', 'a whole number was expected, not zero. ' + OUT_OF_PLACE),
-    (PORT, '+ LAYER m1 MASK 1 ( 0 0 )', 15, 'Unsupported', f'MASK of a pin is not supported. {MASKS} {NO_TOOL}'),
+    (PORT, '+ LAYER m1 MASK 1 ( 0 0 )', 15, 'Unsupported', f'MASK of a pin is not supported. {MASKS} {DROPPED_MASKS}'),
     (PORT, '+ POLYGON m1 ( 0 0 ) ( 9 0 ) ( 9 9 ) ' + PORT, 15, 'Unsupported',
-     f'POLYGON of a pin is not supported. {RECTANGLES} tools/plain-def writes its rectangles, if it is rectilinear.'),
+     f'POLYGON of a pin is not supported. {RECTANGLES} {RECTILINEAR}'),
     (PORT, '+ VIA V12 ( 0 0 ) ' + PORT, 15, 'Unsupported',
-     'VIA of a pin is not supported. The metal of a pin of the block is read as rectangles alone. tools/plain-def writes its rectangles.'),
+     f'VIA of a pin is not supported. The metal of a pin of the block is read as rectangles alone. {WIDE}'),
     (PORT, '+ LAYER m9 ( 0 0 )', 15, 'UnknownName', f'there is no layer m9. {NO_LEF}'),
     (PLACEMENT, '- PLACEMENT + SOFT RECT', 18, 'Unsupported',
-     'SOFT of a blockage is not supported. A soft blockage keeps components out when a block is placed first, and not later. '
-     'tools/plain-def takes it out with --soft drop, and makes a hard one of it with --soft hard.'),
+     f'SOFT of a blockage is not supported. A soft blockage keeps components out when a block is placed first, and not later. {LOOSE}'),
     (PLACEMENT, '- PLACEMENT + PARTIAL 0.5 RECT', 18, 'Unsupported',
-     'PARTIAL of a blockage is not supported. A partial blockage limits how full its place is when a block is placed first, which is not judged. '
-     'tools/plain-def takes it out with --partial drop, and makes a hard one of it with --partial hard.'),
-    (PLACEMENT, '- PLACEMENT + COMPONENT u1 RECT', 18, 'Unsupported', f'COMPONENT of a blockage is not supported. The blockage goes with a component. {NO_BLOCKAGE}'),
-    (BLOCKED, '- LAYER m2 + slots RECT', 19, 'Unsupported', f'SLOTS of a blockage is not supported. The blockage keeps out slots, and no wires. {NO_BLOCKAGE}'),
-    (BLOCKED, '- LAYER m2 + FILLS RECT', 19, 'Unsupported', f'FILLS of a blockage is not supported. The blockage keeps out fills, and no wires. {NO_BLOCKAGE}'),
+     f'PARTIAL of a blockage is not supported. A partial blockage limits how full its place is when a block is placed first, which is not judged. {LOOSE}'),
+    (PLACEMENT, '- PLACEMENT + COMPONENT u1 RECT', 18, 'Unsupported', f'COMPONENT of a blockage is not supported. The blockage goes with a component. {WIDE}'),
+    (BLOCKED, '- LAYER m2 + slots RECT', 19, 'Unsupported', f'SLOTS of a blockage is not supported. The blockage keeps out slots, and no wires. {WIDE_OF_LAYERS}'),
+    (BLOCKED, '- LAYER m2 + FILLS RECT', 19, 'Unsupported', f'FILLS of a blockage is not supported. The blockage keeps out fills, and no wires. {WIDE_OF_LAYERS}'),
     (BLOCKED, '- LAYER m2 + EXCEPTPGNET RECT', 19, 'Unsupported',
      f'EXCEPTPGNET of a blockage is not supported. The blockage does not keep out power and ground nets. {NO_BLOCKAGE}'),
     (BLOCKED, '- LAYER m2 + SPACING 5 RECT', 19, 'Unsupported', f'SPACING of a blockage is not supported. The blockage has a spacing of its own. {NO_BLOCKAGE}'),
     (BLOCKED, '- LAYER m2 + DESIGNRULEWIDTH 5 RECT', 19, 'Unsupported',
      f'DESIGNRULEWIDTH of a blockage is not supported. The blockage has a width of its own, from which its spacing follows. {NO_BLOCKAGE}'),
-    (BLOCKED, '- LAYER m2 + MASK 1 RECT', 19, 'Unsupported', f'MASK of a blockage is not supported. {MASKS} {NO_BLOCKAGE}'),
+    (BLOCKED, '- LAYER m2 + MASK 1 RECT', 19, 'Unsupported', f'MASK of a blockage is not supported. {MASKS} lefdef --wide --masks drop reads past it, of a layer.'),
     (BLOCKED, '- LAYER m2 + FOO RECT', 19, 'Unsupported', f'FOO of a blockage is not supported. No blockage of LEF/DEF 5.8 has this word. {NO_BLOCKAGE}'),
-    (BLOCKED, '- LAYER m2 POLYGON ( 1 1 ) RECT', 19, 'Unsupported', 
-     'POLYGON of a blockage is not supported. A blockage is read as rectangles alone. tools/plain-def writes its rectangles, if it is rectilinear.'),
-    (STRAP, '+ RECT m1 ( 0 0 ) ( 9 9 ) ' + STRAP, 23, 'Unsupported', f'RECT of a net is not supported. {PATHS} tools/plain-def writes it as wires.'),
+    (BLOCKED, '- LAYER m2 POLYGON ( 1 1 ) RECT', 19, 'Unsupported',
+     f'POLYGON of a blockage is not supported. A blockage is read as rectangles alone. {RECTILINEAR}'),
+    (STRAP, '+ RECT m1 ( 0 0 ) ( 9 9 ) ' + STRAP, 23, 'Unsupported', f'RECT of a net is not supported. {PATHS} {WIDE}'),
     (STRAP, '+ POLYGON m1 ( 0 0 ) ( 9 0 ) ( 9 9 ) ' + STRAP, 23, 'Unsupported',
-     f'POLYGON of a net is not supported. {PATHS} tools/plain-def writes it as wires, if it is rectilinear.'),
-    (STRAP, '+ VIA V12 ( 0 0 ) ' + STRAP, 23, 'Unsupported', f'VIA of a net is not supported. {PATHS} tools/plain-def writes it as wires.'),
+     f'POLYGON of a net is not supported. {PATHS} {RECTILINEAR}'),
+    (STRAP, '+ VIA V12 ( 0 0 ) ' + STRAP, 23, 'Unsupported', f'VIA of a net is not supported. {PATHS} {WIDE}'),
     (STRAP, STRAP.replace('100', '101'), 23, 'OddWidth', f'the width 101 is odd. The middle line of a wire is on a database unit, so the width is even. {UNITS}'),
     (STRAP, STRAP.replace('100', '-2'), 23, 'TooLarge', 'a width is negative.'),
     (STRAP, STRAP.replace('100', '0'), 23, 'EmptyRect', f'a wire has the width 0, at (. A path of the width 0 has vias alone. {NO_TOOL}'),
     (STRAP, STRAP.replace('100', '100 + STYLE 1 + SHAPE RING'), 23, 'Unsupported', f'STYLE in wiring is not supported. A style gives wires ends of another form. {NO_TOOL}'),
     (STRAP, STRAP + ' V12 DO 2 BY 2 STEP 100 100', 23, 'Unsupported',
-     'DO in wiring is not supported. A via is repeated in columns and rows. tools/plain-def writes each via, in SPECIALNETS.'),
+     'DO in wiring is not supported. A via is repeated in columns and rows. lefdef --wide reads it in SPECIALNETS.'),
     (WIRE, 'm1 TAPERRULE wide ( 100 150 ) ( 300 150 )', 27, 'Unsupported', f'TAPERRULE in wiring is not supported. {RULE} {PLAIN_RULE}'),
-    (WIRE, 'm1 ( 100 150 ) MASK 1 ( 300 150 )', 27, 'Unsupported', f'MASK in wiring is not supported. {MASKS} {NO_TOOL}'),
-    (WIRE, 'm1 ( 100 150 ) VIRTUAL ( 300 250 )', 27, 'Unsupported', f'VIRTUAL in wiring is not supported. A virtual connection joins two points without metal. {NO_TOOL}'),
-    (WIRE, WIRE + ' V12 FN', 27, 'Unsupported', 'the orientation of a via in wiring is not supported. The via is turned or mirrored. tools/plain-def writes it as a via of its own.'),
+    (WIRE, 'm1 ( 100 150 ) MASK 1 ( 300 150 )', 27, 'Unsupported', f'MASK in wiring is not supported. {MASKS} {DROPPED_MASKS}'),
+    (WIRE, 'm1 ( 100 150 ) VIRTUAL ( 300 250 )', 27, 'Unsupported', 'VIRTUAL in wiring is not supported. A virtual connection joins two points without metal. lefdef --wide reads it in NETS.'),
+    (WIRE, WIRE + ' V12 FN', 27, 'Unsupported', 'the orientation of a via in wiring is not supported. The via is turned or mirrored. lefdef --wide reads one orientation behind a via.'),
     (WIRE, 'm1 ( 100 150 ) ( 300 250 )', 27, 'Diagonal', f'a wire is neither horizontal nor vertical. Wires at an angle are not read. {NO_TOOL}'),
     (WIRE, 'm1 ( 100 150 ) ( 300 150 -1 )', 27, 'TooLarge', 'an extension is negative.'),
     (WIRE, 'm1 ( 100 150 ) RECT ( 0 0 0 9 )', 27, 'EmptyRect', 'a rectangle has no area, at (.'),
@@ -182,7 +184,7 @@ DEF_FORMS = (
     (NET, '- n2 ( u1 Y ) + SUBNET s ( u1 Y ) ROUTED m1 ( 0 0 ) ;', 28, 'Unsupported', f'SUBNET of a net is not supported. A part of the net has pins and wiring of its own. {NO_TOOL}'),
     (NET, '- n2 ( u1 Y ) + VPIN v ( 0 0 ) ( 1 1 ) ;', 28, 'Unsupported', f'VPIN of a net is not supported. A virtual pin is no pin of a component or of the block. {NO_TOOL}'),
     (NET, '- n2 ( u1 Y ) + STYLE 1 ;', 28, 'Unsupported', f'STYLE of a net is not supported. A style gives wires ends of another form. {NO_TOOL}'),
-    (NET, '- n2 ( u1 Y ) + MASK 1 ;', 28, 'Unsupported', f'MASK of a net is not supported. {MASKS} {NO_TOOL}'),
+    (NET, '- n2 ( u1 Y ) + MASK 1 ;', 28, 'Unsupported', f'MASK of a net is not supported. {MASKS} lefdef --wide --masks drop reads past it in SPECIALNETS.'),
     (NET, '- n2 ( u1 Y ) + VIRTUAL ;', 28, 'Unsupported', f'VIRTUAL of a net is not supported. A virtual connection joins two points without metal. {NO_TOOL}'),
     ('UNITS DISTANCE MICRONS 1000 ;', '', 30, 'UnexpectedEnd', 'UNITS DISTANCE MICRONS is missing.'),
     ('UNITS DISTANCE MICRONS 1000', 'UNITS DISTANCE MICRONS 1000.0', 3, 'BadNumber',
@@ -219,22 +221,32 @@ LEF_FORMS = (
     ('SITE core ;', 'SITE core ; SITE core ;', 21, 'Unsupported', f'SITE appears twice. A macro has one site. {NO_TOOL}'),
     ('SITE core ;', 'SITE core 0 0 N DO 1 BY 1 STEP 1 1 ;', 21, 'Unsupported', f'SITE of a macro with more than a name. A macro has one site, and no pattern of sites. {NO_TOOL}'),
     ('SITE core ;', 'SITE other ;', 21, 'UnknownName', f'there is no site other. {NO_LEF}'),
-    (PIN_RECT, 'POLYGON 0 0 1 0 1 1 ;', 26, 'Unsupported', f'POLYGON in a geometry is not supported. {RECTANGLES} tools/plain-lef writes its rectangles, if it is rectilinear.'),
-    (PIN_RECT, 'PATH 0 0 1 0 ;', 26, 'Unsupported', f'PATH in a geometry is not supported. {RECTANGLES} {NO_TOOL}'),
-    (PIN_RECT, 'VIA 0 0 V12 ;', 26, 'Unsupported', f'VIA in a geometry is not supported. {RECTANGLES} {NO_TOOL}'),
-    (PIN_RECT, 'RECT MASK 1 0 0 1 1 ;', 26, 'Unsupported', f'RECT MASK is not supported. {MASKS} {NO_TOOL}'),
+    (PIN_RECT, 'POLYGON 0 0 1 0 1 1 ;', 26, 'Unsupported', f'POLYGON in a geometry is not supported. {RECTANGLES} {RECTILINEAR}'),
+    (PIN_RECT, 'PATH 0 0 1 0 ;', 26, 'Unsupported', f'PATH in a geometry is not supported. {RECTANGLES} {STRAIGHT}'),
+    (PIN_RECT, 'VIA 0 0 V12 ;', 26, 'Unsupported', f'VIA in a geometry is not supported. {RECTANGLES} {WIDE}'),
+    (PIN_RECT, 'RECT MASK 1 0 0 1 1 ;', 26, 'Unsupported', f'RECT MASK is not supported. {MASKS} {DROPPED_MASKS}'),
     (PIN_RECT, 'RECT ITERATE 0 0 1 1 DO 2 BY 1 STEP 2 0 ;', 26, 'Unsupported',
-     'RECT ITERATE is not supported. A rectangle is repeated in columns and rows. tools/plain-lef writes each rectangle.'),
+     f'RECT ITERATE is not supported. A rectangle is repeated in columns and rows. {WIDE}'),
     (PIN_RECT, 'RECT 0.1000000001 0.1 0.2 0.2 ;', 26, 'BadNumber',
      f'a length of at most six decimals was expected, not 0.1000000001. It is finer than a millionth of a micron. {PLAIN_LENGTH}'),
     (PIN_RECT, 'RECT 1e-1 0.1 0.2 0.2 ;', 26, 'BadNumber',
      f'a length of at most six decimals was expected, not 1e-1. A length of a LEF is a sign, digits and maybe a point. {PLAIN_LENGTH}'),
-    (OBS_RECT, 'LAYER m1 EXCEPTPGNET ;', 37, 'Unsupported', f'EXCEPTPGNET is not supported. The obstruction does not keep out power and ground nets. {NO_TOOL}'),
+    (OBS_RECT, 'LAYER m1 EXCEPTPGNET ;', 37, 'Unsupported', f'EXCEPTPGNET is not supported. The obstruction does not keep out power and ground nets. lefdef --wide reads it as one that does.'),
     (OBS_RECT, 'LAYER m9 ; POLYGON 0 0 ;', 37, 'UnknownName', f'there is no layer m9. {NO_LEF}'),
     (OBS_RECT, 'FOO 1 ;', 37, 'Unexpected', 'a form of a geometry was expected, not FOO. ' + OUT_OF_PLACE),
     ('END INV', 'END inv', 39, 'Unexpected', 'END INV was expected, not inv.'),
     ('END LIBRARY', 'END LIBRARY LAYER m4 TYPE CUT ; END m4', 40, 'Unexpected', 'nothing may follow END LIBRARY, at LAYER.'),
     ('END LIBRARY', '"', 40, 'UnclosedString', 'a quoted word is not closed.'),
+)
+# Rules of the LEF that the wide profile refuses: what is put before the END of the library, the line, the kind, and the sentences.
+WIDE_RULES = (
+    ('NONDEFAULTRULE r LAYER m1 WIDTH 0.2 ; END m1 LAYER m1 WIDTH 0.2 ; END m1 END r', 'Unexpected',
+     'layer m1 appears twice in a rule, at LAYER. A rule tells the width of a layer once. Leave one of the two out.'),
+    ('NONDEFAULTRULE r END r NONDEFAULTRULE r END r', 'DuplicateName', 'rule r is defined twice. Leave one of the two out.'),
+    ('NONDEFAULTRULE r LAYER m9 WIDTH 0.2 ; END m9 END r', 'UnknownName', f'there is no layer m9. {NO_LEF}'),
+    ('NONDEFAULTRULE r LAYER m1 SPACING 0.2 ; END m1 END r', 'Unexpected', 'layer m1 of a rule has no WIDTH, at END.'),
+    ('NONDEFAULTRULE r LAYER m1 WIDTH 0.2005 ; END m1 END r', 'NotOnUnit',
+     f'a length of r is no whole number of database units: 0.2005 microns at 1000 units a micron. No length is rounded. {UNITS}'),
 )
 # Vias of the LEF that are not good: what is replaced, by what, and why a wire that names the via is refused.
 BAD_VIAS = (
@@ -249,6 +261,16 @@ BAD_VIAS = (
 GENERATED = '- big + VIARULE r + CUTSIZE 20 20 + LAYERS m1 v1 m2 + CUTSPACING 20 20 + ENCLOSURE 10 10 10 10'
 BIG = '- big + RECT m1 ( -50 -50 ) ( 50 50 ) + RECT v1 ( -50 -50 ) ( 50 50 ) + RECT m2 ( -50 -50 ) ( 50 50 )'
 WIDE_FORMS = (
+    (PORT, '+ POLYGON m1 ( 0 0 ) ( 9 0 ) ( 9 9 ) ' + PORT, 15, 'Unsupported', f'POLYGON with a slanted side is not supported. {RECTANGLES} {NO_TOOL}'),
+    (BLOCKED, '- LAYER m2 POLYGON ( 1 1 ) RECT', 19, 'EmptyRect', 'a polygon has no area, at POLYGON.'),
+    (STRAP, '+ POLYGON m1 ( 0 0 ) ( 9 0 ) ( 9 9 ) ' + STRAP, 23, 'Unsupported', f'POLYGON with a slanted side is not supported. {RECTANGLES} {NO_TOOL}'),
+    (NET, '- n2 ( u1 Y ) + NONDEFAULTRULE wide ;', 28, 'UnknownName',
+     'there is no nondefault rule wide. Nothing before this place defines it: check its spelling and its capitals.'),
+    (WIRE, 'm1 TAPERRULE wide ( 100 150 ) ( 300 150 )', 27, 'UnknownName',
+     'there is no nondefault rule wide. Nothing before this place defines it: check its spelling and its capitals.'),
+    (STRAP, '+ NONDEFAULTRULE wide ' + STRAP, 23, 'Unsupported', f'NONDEFAULTRULE of a net is not supported. {RULE} {PLAIN_RULE}'),
+    (WIRE, WIRE + ' V12 FN S', 27, 'Unsupported',
+     'the orientation of a via in wiring is not supported. The via is turned or mirrored. lefdef --wide reads one orientation behind a via.'),
     *((BIG, f'{GENERATED} + {word} any', 8, 'Unsupported', f'{word} of a generated via is not supported. A generated via has its numbers, and no shapes beside them. {NO_TOOL}')
       for word in ('RECT', 'POLYGON', 'PATTERNNAME', 'MASK')),
     (BIG, GENERATED.replace('CUTSIZE 20', 'CUTSIZE 21'), 8, 'BadVia',
@@ -257,20 +279,36 @@ WIDE_FORMS = (
     (BIG, f'{GENERATED} + ROWCOL 73 137', 8, 'TooLarge', 'a via has more than 10,000 cuts.'),
     (STRAP, '+ RECT m1 ( 0 0 ) ( 1 1 )', 23, 'Unsupported',
      f'a square of one unit is not supported. A rectangle of a special net is read as wires, whose width is even. {NO_TOOL}'),
-    (STRAP, '+ MASK 1 + RECT m1 ( 0 0 ) ( 9 9 )', 23, 'Unsupported', f'MASK of a net is not supported. {MASKS} {NO_TOOL}'),
+    (STRAP, '+ MASK 1 + RECT m1 ( 0 0 ) ( 9 9 )', 23, 'Unsupported', f'MASK of a net is not supported. {MASKS} lefdef --wide --masks drop reads past it in SPECIALNETS.'),
     ('TRACKS X', 'ROW t core 0 0 W ;\nTRACKS X', 6, 'BadRow',
      'components have the site core of a row that is turned, or of several rows. A row that is turned, or is of several rows, is read past where nothing can stand '
      f'in it. {NO_TOOL}'),
     ('- PLACEMENT RECT', '- PLACEMENT + SLOTS RECT', 18, 'Unsupported',
-     f'SLOTS of a blockage is not supported. The blockage keeps out slots, and no wires. {NO_BLOCKAGE}'),
+     f'SLOTS of a blockage is not supported. The blockage keeps out slots, and no wires. {WIDE_OF_LAYERS}'),
 )
+# A comb of 1,414 teeth, each higher than the one to the west of it.
+COMB = ' '.join(f'{(2 * n + 1) / 1000} 1 {(2 * n + 1) / 1000} {(n + 1001) / 1000} {n / 500} {(n + 1001) / 1000} {n / 500} 1' for n in range(1413, -1, -1))
+COMB = f'2.827 0 {COMB}'
 # The same of a LEF: what is in place of the rectangle of a pin, of a macro without its end.
 WIDE_LEF_FORMS = (
     ('POLYGON 0 0 1 0 1 1 ;', 'Unsupported', f'POLYGON with a slanted side is not supported. {RECTANGLES} {NO_TOOL}'),
     ('POLYGON 0 0 1 0 1 0.5 1 0 ;', 'EmptyRect', 'a polygon has no area, at POLYGON.'),
     ('POLYGON ;', 'EmptyRect', 'a polygon has no area, at POLYGON.'),
-    (f'POLYGON {"0 0 1 0 1 1 0 1 " * 250} 0 0 ;', 'TooLarge', 'a polygon has more than 1,000 points.'),
-    ('POLYGON MASK 1 0 0 1 0 1 1 0 1 ;', 'Unsupported', f'POLYGON MASK is not supported. {MASKS} {NO_TOOL}'),
-    ('POLYGON ITERATE 0 0 1 0 1 1 0 1 DO 2 BY 1 STEP 2 0 ;', 'Unsupported',
-     'POLYGON ITERATE is not supported. A polygon is repeated in columns and rows. tools/plain-lef writes each rectangle.'),
+    (f'POLYGON 0 0 {COMB} ;', 'TooLarge', 'a polygon has more than 1,000,000 slabs.'),
+    ('POLYGON MASK 1 0 0 1 0 1 1 0 1 ;', 'Unsupported', f'POLYGON MASK is not supported. {MASKS} {DROPPED_MASKS}'),
+    ('PATH 0 0 1 0 1.1 1 ;', 'Unsupported', f'PATH with a slanted line is not supported. {RECTANGLES} {NO_TOOL}'),
+    ('WIDTH 0.000001 ; PATH 0 0 1 0 ;', 'Unsupported',
+     f'PATH of an odd width is not supported. The middle line of a path is on a millionth of a micron, so the width is even. {NO_TOOL}'),
+    ('LAYER v1 ; PATH 0 0 1 0 ;', 'Unsupported',
+     f'PATH on a cut layer without a WIDTH is not supported. No wire runs on a layer of cuts, so it has no width for a path. {NO_TOOL}'),
+    ('PATH 2000000000 0 ;', 'Unsupported',
+     f'PATH beyond 2,000 metres is not supported. The path reaches half its width beyond its points. {NO_TOOL}'),
+    ('WIDTH any ; PATH 0 0 1 0 ;', 'Unsupported',
+     f'PATH behind a WIDTH that is no length above 0 is not supported. A WIDTH holds up to the next WIDTH or LAYER. {NO_TOOL}'),
+    ('PATH MASK 1 0 0 1 0 ;', 'Unsupported', f'PATH MASK is not supported. {MASKS} {DROPPED_MASKS}'),
+    ('PATH ITERATE 0 0 1 0 DO 2 BY 1 STEP 2 0 ;', 'Unsupported', f'PATH ITERATE is not supported. A path is repeated in columns and rows. {NO_TOOL}'),
+    ('VIA MASK 1 0 0 V12 ;', 'Unsupported', f'VIA MASK is not supported. {MASKS} {DROPPED_MASKS}'),
+    ('VIA 0 0 V9 ;', 'UnknownName', 'there is no via V9. Nothing before this place defines it: check its spelling and its capitals.'),
+    ('POLYGON ITERATE 0 0 1 0 1 1 0 1 DO 2 BY 0 STEP 2 0 ;', 'TooLarge', 'there is no copy.'),
+    ('RECT ITERATE 0 0 1 1 DO 2001 BY 2000 STEP 2 0 ;', 'TooMany', 'there are more than 4,000,000 rectangles of copies.'),
 )

@@ -10,7 +10,9 @@ from unittest import mock
 sys.path.insert(0, os.path.dirname(os.path.abspath(__file__)))
 
 from doctored import TOP, expressions, script
-from refused_forms import BAD_VIAS, BLOCK, DEF_FORMS, LEF_FORMS, NO_LEF, NO_TOOL, OBS_RECT, OUT_OF_PLACE, PIN_RECT, RECTANGLES, STRAP, TECHNOLOGY, WIDE_FORMS, WIDE_LEF_FORMS, WIRE
+from refused_forms import (
+    BAD_VIAS, BLOCK, DEF_FORMS, DROPPED_MASKS, LEF_FORMS, NO_LEF, NO_TOOL, OBS_RECT, OUT_OF_PLACE, PIN_RECT, RECTANGLES, RECTILINEAR, STRAP, TECHNOLOGY, WIDE,
+    WIDE_FORMS, WIDE_LEF_FORMS, WIDE_RULES, WIRE)
 
 refused = script('tools/refused')
 
@@ -143,17 +145,19 @@ class CorpusTests(Room):
             kinds.append(answer[0])
         return kinds
 
-    def test_the_tool_that_helps_is_the_one_that_the_program_names_unless_it_names_the_wide_profile(self):
+    def test_the_program_names_the_options_that_are_named_here(self):
         found = set()
-        for design, libraries, _, answer in self.cases():
-            if answer[-1] == 'Unsupported':
-                with open('stderr', encoding='utf-8') as file:
-                    said = file.read()
-                named = re.findall('tools/[a-z-]+', said)
-                helps = re.findall('tools/[a-z-]+', self.lines(design, *libraries)[0])
-                self.assertEqual(named, [] if '--wide' in said else helps, said)
-                found.update(named)
-        self.assertEqual(found, {'tools/plain-def', 'tools/plain-lef'})
+        for is_wide in (False, True):
+            for design, libraries, _, answer in self.cases(is_wide):
+                if answer[-1] == 'Unsupported':
+                    with open('stderr', encoding='utf-8') as file:
+                        said = file.read()
+                    helps = self.lines(design, *libraries, profile=self.profile)[0].partition(': ')[2]
+                    self.assertNotIn('tools/', said)
+                    if not is_wide:
+                        self.assertEqual('--wide' in said, 'lefdef --wide ' in helps, (said, helps))
+                    found.update(re.findall('--[a-z]+', said))
+        self.assertEqual(found, {'--wide', '--masks', '--soft'})
 
     def test_examples(self):
         for name in sorted(os.listdir(os.path.join(TOP, 'examples'))):
@@ -191,7 +195,7 @@ class FormTests(Room):
     def test_vias_that_are_not_good_are_refused_where_a_wire_names_them(self):
         for old, new, why in BAD_VIAS:
             technology = self.changed(TECHNOLOGY, old, new)
-            helps = 'tools/plain-lef writes the rectangles of a generated via.' if why.endswith('VIARULE') else NO_TOOL
+            helps = DROPPED_MASKS if why.endswith('MASK') else WIDE if 'statement' in why else NO_TOOL
             with self.subTest(why=why):
                 self.assertEqual(self.with_texts(technology, BLOCK), ['no form is refused'])
                 self.assertEqual(self.with_texts(technology, BLOCK.replace(WIRE, f'{WIRE} V12')), [
@@ -207,9 +211,8 @@ class FormTests(Room):
     def test_a_figure_of_a_special_net_behind_a_status(self):
         lines = self.with_texts(TECHNOLOGY, self.changed(BLOCK, STRAP, f'+ ROUTED + SHAPE RING + RECT m1 ( 0 0 ) ( 9 9 ) {STRAP}'))
         self.assertEqual([it for it in lines if ': not looked at, ' not in it], [
-            'block.def:23: Unexpected, 1 place: the name of a layer was expected, not +. A status in front of a figure of a special net is not read. '
-            'tools/plain-def writes the figure as wires.',
-            'block.def:23: Unsupported, 1 place: RECT of a net is not supported. Metal of a special net is read as paths alone. tools/plain-def writes it as wires.',
+            f'block.def:23: Unexpected, 1 place: the name of a layer was expected, not +. A status in front of a figure of a special net is not read. {WIDE}',
+            f'block.def:23: Unsupported, 1 place: RECT of a net is not supported. Metal of a special net is read as paths alone. {WIDE}',
             'refused forms 2, places 2'])
 
     def test_each_form_that_advice_is_kept_for_is_met(self):
@@ -226,6 +229,14 @@ class FormTests(Room):
             technology = self.changed(TECHNOLOGY, PIN_RECT, new).replace('END INV', 'END INW')
             faults, _, _ = tolerant.read_faults(self.write('block.def', BLOCK), [self.write('tech.lef', technology)], (), Profile(True))
             met.update(it.form for it in faults.found)
+        for new, *_ in WIDE_RULES:
+            technology = TECHNOLOGY.replace('END LIBRARY', f'{new}\nEND LIBRARY')
+            faults, _, _ = tolerant.read_faults(self.write('block.def', BLOCK), [self.write('tech.lef', technology)], (), Profile(True))
+            met.update(it.form for it in faults.found)
+        rules = BLOCK.replace('NETS 2 ;', 'NONDEFAULTRULES 1 ;\n- r + LAYER m1 WIDTH 201 ;\nEND NONDEFAULTRULES\nNETS 2 ;')
+        faults, _, _ = tolerant.read_faults(self.write('block.def', rules.replace('( u1 A )', '( u1 A ) + NONDEFAULTRULE r')), [self.write('tech.lef', TECHNOLOGY)], (), Profile(True))
+        self.assertEqual([it.kind for it in faults.found], ['OddWidth'])
+        met.update(it.form for it in faults.found)
         self.assertEqual(set(refusal_advice.ADVICE) - met, {'there are more than 200,000 entries of COMPONENTS'})
 
 
@@ -308,7 +319,7 @@ class SyntaxTests(Room):
         lines = self.with_texts(TECHNOLOGY.replace('USE SIGNAL ;', 'USE ( SIGNAL ;').replace(OBS_RECT, 'POLYGON 0 0 ;'), BLOCK)
         self.assertEqual(lines, [
             f'tech.lef:23: Unexpected, 1 place: a use was expected, not (. {OUT_OF_PLACE}',
-            f'tech.lef:37: Unsupported, 1 place: POLYGON in a geometry is not supported. {RECTANGLES} tools/plain-lef writes its rectangles, if it is rectilinear.',
+            f'tech.lef:37: Unsupported, 1 place: POLYGON in a geometry is not supported. {RECTANGLES} {RECTILINEAR}',
             'tech.lef:23: not looked at, 1 place: what follows the word at fault in its statement or entry, here',
             'refused forms 2, places 2'])
 

@@ -15,7 +15,7 @@ SHORTS = 'crates/leg_rules/specs/Spacing/Violations.antt'
 SHARED = '  pub shared : SharePoint a.rect b.rect\n'
 VIAS = 'crates/leg_grammar/specs/Def/Via.antt'
 CUTS = 'crates/leg_grammar/specs/Def/CutArray.antt'
-AREA = 'area_of r = if is_area r then Some r else None'
+WIDTH = 'array_width cuts = array_side cuts.columns cuts.cut.x cuts.gap.x'
 INTERVALS = 'crates/leg_geom/specs/Steps/Intervals.antt'
 PAGE, README = (f'{path} is not what tools/trusted writes' for path in ('docs/TRUSTED.md', 'README.md'))
 
@@ -52,7 +52,7 @@ class TrustedTests(unittest.TestCase):
 
     def test_a_line_more_of_a_definition_of_the_wide_profile(self):
         before = self.row('`check` of texts')
-        self.copy.edit(CUTS, AREA, AREA.replace(' = ', ' =\n    '))
+        self.copy.edit(CUTS, WIDTH, WIDTH.replace(' = ', ' =\n    '))
         self.assertEqual(self.lines(), (0, []))
         lines, rooms, records, wide, *others = before
         self.assertEqual(self.row('`check` of texts'), [lines + 1, rooms + 1, records, wide + 1, *others])

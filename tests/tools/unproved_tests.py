@@ -24,6 +24,13 @@ class UnprovedTests(unittest.TestCase):
         self.assertTrue(found.stderr.endswith('    - u2 INVX + PLACED ( 400 0 ) N ;\n         ^^^^\n'), found.stderr)
         self.assertEqual(found.returncode, 2)
 
+    def test_it_takes_the_options_of_the_wide_profile(self):
+        found = tried('--wide', 'check', 'examples/wide/supplies.def', 'examples/standard.lef')
+        self.assertEqual((found.stdout, found.stderr, found.returncode), ('legal\n', '', 0))
+        found = tried('--wide', '--masks', 'drop')
+        self.assertIn('tools/try-unproved check', found.stderr)
+        self.assertEqual((found.stdout, found.returncode), ('', 64))
+
     def test_too_few_words_show_how_it_is_used(self):
         found = tried('check', 'examples/misspelt.def')
         self.assertIn('tools/try-unproved check', found.stderr)

@@ -17,7 +17,7 @@ from view_tests import STANDARD, TOP, UNFINISHED_LINES, case, example  # noqa: E
 
 sys.path.insert(0, os.path.join(TOP, 'tools'))
 from block_page import Changes, PageData  # noqa: E402
-from lefdef_text import Refused, read_design, read_library, read_violations  # noqa: E402
+from lefdef_text import Profile, read_design, read_library, read_violations  # noqa: E402
 from violation_marks import Finder  # noqa: E402
 from web_page import examples, page_text  # noqa: E402
 
@@ -101,16 +101,10 @@ class Case:
     def status(self):
         return int(self.file('status', b'0'))
 
-    def can_be_drawn(self):
-        """Returns whether the page reads the texts, if the program does: the page knows the forms of the narrow profile alone."""
-        if not self.profile['isWide'] or self.status() in (2, 4):
-            return True
-        design, *libraries, _ = self.paths()
-        try:
-            read_design(design, read_library(libraries))
-        except Refused:
-            return False
-        return True
+    def profile_of_texts(self):
+        """Returns the profile as tools/lefdef_text has it."""
+        soft = self.profile['soft']
+        return Profile(self.profile['isWide'], self.profile['masks'] == 'drop', None if soft == 'refused' else soft)
 
     def picture(self):
         """Returns the data of the picture that is drawn of the case, as tools/view would have it, or None."""
@@ -118,14 +112,15 @@ class Case:
         lines = self.file('stdout').decode('utf-8', 'surrogateescape').splitlines()
         if self.status() in (2, 4):
             return None
-        library, before, listed = read_library(libraries), None, None
+        profile = self.profile_of_texts()
+        library, before, listed = read_library(libraries, profile), None, None
         if self.status() == 0 and command in ('legalise', 'route', 'flow', 'finish'):
-            design_path, before = stdout, read_design(design_path, library)
+            design_path, before = stdout, read_design(design_path, library, profile)
         elif command == 'print':
             design_path = stdout
         elif lines and lines[-1].split(' ')[0] in LIST_ENDS:
             listed = stdout
-        design = read_design(design_path, library)
+        design = read_design(design_path, library, profile)
         marks = Finder(design, listed, read_violations(listed)).marks() if listed else None
         data = PageData(design, marks, design.name, Changes(design, before) if before else None).data()
         for group in ('shapes', 'components'):
@@ -147,7 +142,7 @@ def cases(room, is_made):
             continue
         found = Case(name, room)
         is_command = len(found.words) > 2 and found.words[0] in COMMANDS and found.status() != 64
-        if not os.path.exists(os.path.join(folder, 'out')) and is_command and all(map(os.path.isfile, found.paths()[:-1])) and found.can_be_drawn():
+        if not os.path.exists(os.path.join(folder, 'out')) and is_command and all(map(os.path.isfile, found.paths()[:-1])):
             yield found
 
 

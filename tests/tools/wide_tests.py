@@ -1,5 +1,6 @@
 """Tests of the tools in the wide profile: what they read of the cases of the program, and the options."""
 import os
+import random
 import subprocess
 import sys
 import tempfile
@@ -8,12 +9,13 @@ import unittest
 sys.path.insert(0, os.path.dirname(os.path.abspath(__file__)))
 
 from doctored import TOP, script
-from refused_forms import BLOCK, PIN_RECT, TECHNOLOGY, WIDE_FORMS, WIDE_LEF_FORMS
+from refused_forms import BLOCK, COMB, PIN_RECT, TECHNOLOGY, WIDE_FORMS, WIDE_LEF_FORMS, WIDE_RULES
 
 refused = script('tools/refused')
 judged = script('tools/judged')
 
 from lefdef_text import NARROW, Profile, Refused, read_design, read_library  # noqa: E402
+from lefdef_text.polygon import slabs_of  # noqa: E402
 
 CASES = os.path.join(TOP, 'tests', 'program')
 STANDARD = os.path.join(TOP, 'examples', 'standard.lef')
@@ -97,20 +99,33 @@ class FormTests(Room):
                 self.assertEqual(lines[0], f'tech.lef:26: {kind}, 1 place: {why}')
                 self.assertIn('END INV was expected, not INW', lines[1])
 
+    def test_each_rule_of_a_library_that_is_refused(self):
+        for new, kind, why in WIDE_RULES:
+            with self.subTest(new=new):
+                technology = TECHNOLOGY.replace('END LIBRARY', f'{new}\nEND LIBRARY')
+                lines, _ = refused.lines_of(self.write('block.def', BLOCK), [self.write('tech.lef', technology)], WIDE)
+                self.assertEqual([it for it in lines if ': not looked at, ' not in it], [f'tech.lef:40: {kind}, 1 place: {why}', 'refused forms 1, places 1'])
+
     def test_a_component_of_a_macro_that_is_dropped(self):
-        technology = TECHNOLOGY.replace(PIN_RECT, 'PATH 0 0 1 0 ;')
+        technology = TECHNOLOGY.replace(PIN_RECT, 'PATH 0 0 1 1 ;')
         lines, _ = refused.lines_of(self.write('block.def', BLOCK), [self.write('tech.lef', technology)], WIDE)
         self.assertEqual(lines, [
-            'block.def:11: UnknownName, 2 places (lines 11, 12): there is no macro INV. The macro is in tech.lef, and is dropped: in line 26, PATH in a geometry is '
-            'not supported.', 'refused forms 1, places 2'])
+            'block.def:11: UnknownName, 2 places (lines 11, 12): there is no macro INV. The macro is in tech.lef, and is dropped: in line 26, '
+            'PATH with a slanted line is not supported.', 'refused forms 1, places 2'])
         lines, _ = refused.lines_of('block.def', ['tech.lef'])
         self.assertTrue(lines[0].startswith('tech.lef:26: Unsupported, '), lines)
+
+    def test_a_component_of_a_macro_with_paths_that_are_read(self):
+        technology = TECHNOLOGY.replace(PIN_RECT, 'PATH 0.1 0.1 0.2 0.1 ( 0.2 0.2 ) ; WIDTH 0.04 ; PATH 0.1 0.2 ; WIDTH ;')
+        files = self.write('block.def', BLOCK), [self.write('tech.lef', technology)]
+        self.assertEqual(refused.lines_of(*files, WIDE), (['no form is refused'], 0))
+        self.assertIn('Unsupported, 2 places', refused.lines_of(*files)[0][0])
 
 
 class MacroTests(Room):
     """Macros that are dropped, and those that are not."""
     LAYER = 'LAYER m1 TYPE ROUTING ; DIRECTION HORIZONTAL ; WIDTH 0.1 ; END m1\n'
-    PATH = 'OBS LAYER m1 ; PATH 0 0 1 0 ; END'
+    PATH = 'OBS LAYER m1 ; PATH 0 0 1 1 ; END'
 
     def test_it_goes_on_behind_the_first_end_of_its_name(self):
         text = f'{self.LAYER}MACRO a SIZE 1 BY 1 ; {self.PATH} PIN b END b END a\nMACRO b SIZE 1 BY 2 ; END b\nEND LIBRARY\n'
@@ -129,7 +144,7 @@ class MacroTests(Room):
             self.library(f'{self.LAYER}MACRO a SIZE 1 BY 2 ; END a\nMACRO a SIZE 1 BY 1 ; {self.PATH} END a\n')
 
     def test_one_without_its_end_is_refused(self):
-        with self.assertRaisesRegex(Refused, 'PATH in a geometry is not supported'):
+        with self.assertRaisesRegex(Refused, 'PATH with a slanted line is not supported'):
             self.library(f'{self.LAYER}MACRO a SIZE 1 BY 1 ; {self.PATH} END b\n')
 
 
@@ -172,10 +187,23 @@ class PolygonTests(Room):
             self.assertEqual(self.slabs(points, layer='o'), [])
             self.assertEqual(self.slabs(points, NARROW, 'o'), [])
 
-    def test_the_most_points(self):
-        self.assertEqual(self.slabs('0 0 ' * 997 + '1 0 1 2 0 2'), [(0, 0, 1, 2)])
+    def test_many_points_and_too_many_slabs(self):
+        self.assertEqual(self.slabs('0 0 ' * 9997 + '1 0 1 2 0 2'), [(0, 0, 1, 2)])
         with self.assertRaises(KeyError):  # the macro is dropped
-            self.slabs('0 0 ' * 998 + '1 0 1 2 0 2')
+            self.slabs(f'0 0 {COMB}')
+
+    def test_walks_that_cross_themselves(self):
+        for seed in range(60):
+            dice = random.Random(seed)
+            count = dice.choice((2, 3, 5, 9))
+            xs, ys = [[dice.randrange(7) for _ in range(count)] for _ in range(2)]
+            walk = [(x, y) for x, after, y in zip(xs, xs[1:] + xs[:1], ys) for x in (x, after)]
+            inside = {(x, y) for x in range(7) for y in range(7)
+                      if sum(a == c <= x and min(b, d) <= y < max(b, d) for (a, b), (c, d) in zip(walk, walk[1:] + walk[:1])) % 2}
+            squares = [(x, y) for rect in slabs_of(walk) for x in range(rect.x1, rect.x2) for y in range(rect.y1, rect.y2)]
+            with self.subTest(walk=walk):
+                self.assertEqual(sorted(squares), sorted(inside))
+                self.assertEqual(slabs_of(walk), sorted(slabs_of(walk), key=lambda rect: (rect.y1, rect.x1)))
 
 
 class OptionTests(Room):
@@ -213,12 +241,24 @@ class OptionTests(Room):
                 profile = Profile(True, soft=choice)
                 self.assertEqual(len(read_design(design, read_library([STANDARD], profile), profile).blockages), count)
 
+    def test_views_answers_and_wires(self):
+        design = os.path.join(CASES, 'wide_generated_vias', 'wide.def')
+        answer = self.write('answer', 'legal\n')
+        for tool, words in (('view', ('--svg', '-')), ('view', ('--html', '-')), ('wiring', ('--special',)), ('to-json', ('--answer', answer))):
+            with self.subTest(tool=tool, words=words):
+                self.assertEqual(self.ran(tool, design, STANDARD, *words).returncode, 2)
+                done = self.ran(tool, '--wide', design, STANDARD, *words)
+                self.assertEqual((done.returncode, done.stderr), (0, ''), done)
+        plain = design.replace('wide.def', 'plain.def')
+        self.assertEqual(self.ran('wiring', '--special', '--wide', design, STANDARD).stdout, self.ran('wiring', '--special', plain, STANDARD).stdout)
+        self.assertEqual(self.ran('view', '--wide', design, STANDARD, '--svg', '-').stdout, self.ran('view', plain, STANDARD, '--svg', '-').stdout)
+
     def test_options_that_are_wrong(self):
         for words in (('--masks', 'drop'), ('--soft', 'hard'), ('--wide', '--wide'), ('--wide', '--masks', 'keep'), ('--wide', '--soft'),
                       ('--wide', '--soft', 'drop', '--soft', 'drop'), ('--wide', '--masks')):
-            for tool in ('refused', 'judged'):
+            for tool, *more in (('refused',), ('judged',), ('wiring',), ('to-json',), ('view', '--svg', '-')):
                 with self.subTest(tool=tool, words=words):
-                    done = self.ran(tool, *words, STANDARD, STANDARD)
+                    done = self.ran(tool, *words, STANDARD, STANDARD, *more)
                     self.assertEqual((done.returncode, done.stdout), (64, ''), done)
 
 

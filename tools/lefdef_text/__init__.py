@@ -23,7 +23,7 @@ from .answers import Answer, NotRun, Refusal, check, compare, finish, flow, lega
 from .def_reader import read_design
 from .design import Blockage, Component, Design, Net, Patch, Pin, Place, Port, Row, Segment, Shape, Tracks, ViaAt
 from .lef_reader import read_library
-from .library import Layer, Library, Macro, MacroPin, Site, Via
+from .library import Layer, Library, Macro, MacroPin, Rule, Site, Via
 from .lines import FORMS, VIOLATION_LINES, Line, Violation, read_violations
 from .notes import message_of
 from .profile import NARROW, Profile
@@ -33,7 +33,7 @@ from .words import Refused, Words, read_text, shown
 
 __all__ = [
     'Answer', 'Blockage', 'Component', 'Design', 'FORMS', 'Layer', 'Library', 'Line', 'Macro', 'MacroPin', 'NARROW', 'Net', 'NotRun', 'ORIENTATIONS',
-    'Patch', 'Pin', 'Place', 'Port', 'Profile', 'Rect', 'Refusal', 'Refused', 'Row', 'Segment', 'Shape', 'Site', 'TURNS', 'Tracks', 'VIOLATION_LINES',
+    'Patch', 'Pin', 'Place', 'Port', 'Profile', 'Rect', 'Refusal', 'Refused', 'Row', 'Rule', 'Segment', 'Shape', 'Site', 'TURNS', 'Tracks', 'VIOLATION_LINES',
     'Via', 'ViaAt', 'Violation', 'Wiring', 'Words', 'check', 'compare', 'finish', 'flow', 'grown', 'least_box', 'legalise', 'measure', 'meets',
     'message_of', 'moved', 'ordered', 'place_check', 'print_design', 'read_answer', 'read_design', 'read_library', 'read_text', 'read_violations',
     'route', 'run', 'shown', 'turned', 'wiring_of']

@@ -32,8 +32,12 @@ class BlockageReader(EntryReader):
             text.past('BLOCKAGES LAYER without metal', begin)
 
     def blockage_polygon(self):
-        """Refuses a polygon of a blockage, which comes next."""
-        self.text.refuse('POLYGON of a blockage is not supported', self.text.at, 'Unsupported')
+        """Takes a polygon of a blockage, which comes next, and returns its rectangles; the narrow profile refuses it."""
+        text, begin = self.text, self.text.at
+        if not self.profile.is_wide:
+            text.refuse('POLYGON of a blockage is not supported', begin, 'Unsupported')
+        text.take()
+        return self.polygon(begin)
 
     def blockage_clause(self, layer):
         """Takes a clause of a blockage of this layer, and returns False if the blockage is dropped for it."""

@@ -1,11 +1,12 @@
 """Reading a DEF text (docs/FORMATS.md, "DEF"); nets and their wiring are read by `net_reader`."""
 from .blockage_reader import BlockageReader
 from .design import Component, Design, Pin, Place, Port, Row, Tracks
-from .generated_via import GeneratedVia, is_generated
+from .generated_via import GeneratedEntry, is_generated
 from .library import Via, joined_layers, why_not_joined
 from .net_reader import NetReader
 from .profile import NARROW
 from .rects import ORIENTATIONS, moved
+from .rule_reader import rules_of_section
 from .words import GREATEST_NUMBER, WHOLE, Words, value_of
 
 GREATEST_UNITS = 20_000
@@ -70,10 +71,19 @@ class DefReader(BlockageReader):
         if word in self.forms:
             self.forms[word]()
         elif word in self.sections:
+            self.nets.section_at = text.at
             self.section(word, self.sections[word])
+            self.seen.update(('VIAS',) if self.design.turned_vias else ())
         else:
             self.skip_form(word)
+            self.keep_rules(word, begin)
             text.past(word, begin)
+
+    def keep_rules(self, word, begin):
+        """Keeps the rules of a section that was read past, if it is one of rules; its word is the word number `begin`."""
+        if word == 'NONDEFAULTRULES' and self.profile.is_wide:
+            rules = rules_of_section(self.text.words[begin + 1:self.text.at - 2], self.library.layers)
+            self.design.rules = {**self.library.rules, **rules}
 
     def skip_form(self, word):
         text = self.text
@@ -254,7 +264,7 @@ class DefReader(BlockageReader):
         text, shapes = self.text, []
         name = self.new_name('via', self.design.vias)
         if self.profile.is_wide and is_generated(text):
-            self.keep_via(name, GeneratedVia(self).shapes())
+            self.keep_via(name, GeneratedEntry(self).shapes())
             return
 
         def clause(word):
@@ -329,6 +339,8 @@ class DefReader(BlockageReader):
                 ports[-1] = ports[-1]._replace(status=word, place=self.place())
             elif word == 'VIA' and self.profile.is_wide:
                 port().shapes.extend(self.via_of_pin())
+            elif word == 'POLYGON' and self.profile.is_wide:
+                port().shapes.extend(self.polygon_of_pin())
             elif word in ('POLYGON', 'VIA', 'MASK'):
                 self.unread_pin_clause(word, port)
             else:
@@ -354,8 +366,18 @@ class DefReader(BlockageReader):
             text.fault(f'a side of a via is beyond {GREATEST_NUMBER}', at, 'TooLarge')
         return shapes
 
-    def port_layer(self, port):
+    def polygon_of_pin(self):
+        """Takes a layer and a polygon of a pin, and returns its rectangles, none on a layer without metal."""
         text, begin = self.text, self.text.at - 1
+        layer = self.layer_of_pin('POLYGON')
+        slabs = self.polygon(begin)
+        if not layer.has_metal():
+            text.past('PINS + POLYGON without metal', begin)
+        return [(layer.name, slab) for slab in slabs if layer.has_metal()]
+
+    def layer_of_pin(self, form):
+        """Takes the layer of a shape of a pin, and what may stand behind it."""
+        text = self.text
         layer = self.layer()
         self.skip_mask()
         if text.peek() == 'MASK':
@@ -364,7 +386,12 @@ class DefReader(BlockageReader):
             if text.peek() == word:
                 text.expect(word)
                 text.whole()
-                text.past(f'PINS + LAYER {word}', text.at - 2)
+                text.past(f'PINS + {form} {word}', text.at - 2)
+        return layer
+
+    def port_layer(self, port):
+        text, begin = self.text, self.text.at - 1
+        layer = self.layer_of_pin('LAYER')
         rect = text.corners(self.point)
         if layer.has_metal():
             port.shapes.append((layer.name, rect))

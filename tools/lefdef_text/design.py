@@ -1,7 +1,7 @@
 """Designs as records, in their database units, and where their metal lies (docs/RULES.md, "Metal")."""
 from typing import Dict, List, NamedTuple, Optional, Tuple
 
-from .library import LayerRect, Macro, Via
+from .library import LayerRect, Macro, Rule, Via
 from .rects import Rect, least_box, meets, moved, turned
 
 
@@ -113,6 +113,8 @@ class Design:
         self.name = self.die = None
         self.rows, self.tracks = [], []
         self.vias: Dict[str, Via] = dict(library.vias)
+        self.turned_vias: Dict[Tuple[str, str], Via] = {}
+        self.rules: Dict[str, Rule] = dict(library.rules)
         self.why_not_good: Dict[str, str] = dict(library.why_not_good)
         self.components: Dict[str, Component] = {}
         self.pins: Dict[str, Pin] = {}

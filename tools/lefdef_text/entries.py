@@ -12,6 +12,23 @@ class EntryReader(Reader):
     def point(self):
         return self.text.point(self.text.whole)
 
+    def polygon(self, begin):
+        """Takes the points of a polygon, of which the word is the word number `begin`, and returns its slabs."""
+        text, points = self.text, [self.point()]
+        while text.words[text.at] == '(':
+            text.take()
+            points.append(tuple(self.coordinate(points[-1], axis) for axis in (0, 1)))
+            text.expect(')')
+        return self.slabs(points, begin)
+
+    def coordinate(self, last, axis):
+        """Takes a coordinate, where `*` is that of the last point, if there is one."""
+        text = self.text
+        if last and text.words[text.at] == '*':
+            text.take()
+            return last[axis]
+        return text.whole()
+
     def layer(self):
         return self.known('layer', self.library.layers)
 

@@ -1,6 +1,5 @@
 """Reading what only the wide profile has in wiring (docs/FORMATS.md, "Nets" and "Wiring"): figures, arrays of vias and steps without metal."""
 from .design import Segment, ViaAt
-from .rects import ORIENTATIONS
 from .words import GREATEST_NUMBER
 
 MOST_VIAS = 4_000_000
@@ -38,11 +37,11 @@ class WideWiring:
     def is_before_figure(self):
         """Returns whether a figure comes next, or what may stand before one, in place of a path."""
         words, at = self.text.words, self.text.at
-        return self.profile.is_wide and words[at] == '+' and words[at + 1].upper() in ('RECT', 'VIA', 'SHAPE', 'MASK')
+        return self.profile.is_wide and words[at] == '+' and words[at + 1].upper() in ('RECT', 'POLYGON', 'VIA', 'SHAPE', 'MASK')
 
     def is_figure(self, word):
         """Returns whether a clause with this word is a figure, or a mask before one."""
-        return word in ('RECT', 'VIA') and self.profile.is_wide or word == 'MASK' and self.profile.drops_masks
+        return word in ('RECT', 'POLYGON', 'VIA') and self.profile.is_wide or word == 'MASK' and self.profile.drops_masks
 
     def wide_figure(self, word, wires):
         """Takes a figure behind its word, or the mask before one."""
@@ -50,19 +49,24 @@ class WideWiring:
         if word == 'MASK':
             text.whole()
             text.past('SPECIALNETS + MASK', text.at - 2)
-        elif word == 'RECT':
-            wires += self.segments_of_figure()
+        elif word in ('RECT', 'POLYGON'):
+            wires += self.segments_of_figure(word)
         else:
             wires += self.vias_of_figure()
 
-    def segments_of_figure(self):
-        """Takes a layer and a rectangle, and returns its segments."""
-        text = self.text
+    def segments_of_figure(self, word):
+        """Takes a layer and a rectangle or a polygon, and returns its segments."""
+        text, begin = self.text, self.text.at - 1
         layer = self.layer()
         if not layer.is_routing():
             layer = self.no_routing_layer(layer)
-        at = text.at
-        rect = text.corners(self.point)
+        at = text.at if word == 'RECT' else begin
+        rects = [text.corners(self.point)] if word == 'RECT' else self.polygon(begin)
+        return [segment for rect in rects for segment in self.segments_of_rect(layer, rect, at)]
+
+    def segments_of_rect(self, layer, rect, at):
+        """Returns the segments of a rectangle of a figure; one that has none is refused at the word number `at`."""
+        text = self.text
         segments = segments_of(layer.name, rect)
         if not segments and rect.x1 < rect.x2 and rect.y1 < rect.y2:
             text.fault('a square of one unit is not supported', at, 'Unsupported')
@@ -77,13 +81,7 @@ class WideWiring:
         via = self.design.vias[name] if name in self.design.vias else self.unknown('via', name)
         if not via.is_good():
             self.bad_via(via)
-        if text.peek() == 'N':
-            text.take()
-            text.past('SPECIALNETS N after a via', text.at - 1)
-        elif text.peek() in ORIENTATIONS:
-            at = text.at
-            self.unread_in_wiring(text.peek(), at)
-            text.at = at + 1
+        via = self.in_orientation(via, True)
         points = [self.point()]
         while text.words[text.at] == '(':
             points.append(self.point())
@@ -97,14 +95,6 @@ class WideWiring:
         point = tuple(self.coordinate(last, axis) for axis in (0, 1))
         text.expect(')')
         return point
-
-    def coordinate(self, last, axis):
-        """Takes a coordinate, where `*` is that of the last point, if there is one."""
-        text = self.text
-        if last and text.words[text.at] == '*':
-            text.take()
-            return last[axis]
-        return text.whole()
 
     def array_of(self, via, point, at):
         """Takes how a via is repeated from a point on, and returns each; the name of the via is the word number `at`."""

@@ -1,6 +1,7 @@
 """Reading LEF texts (docs/FORMATS.md, "LEF")."""
-from .geometry_reader import Drawing, GeometryReader
-from .library import Layer, Library, Macro, MacroPin, Site, Via, joined_layers, why_not_joined
+from .geometry_reader import Drawing
+from .lef_via_reader import LefViaReader
+from .library import Layer, Library, Macro, MacroPin, Rule, Site
 from .profile import NARROW
 from .words import Refused, Words
 
@@ -13,7 +14,7 @@ def read_library(paths, profile=NARROW):
     return library
 
 
-class LefReader(GeometryReader):
+class LefReader(LefViaReader):
     """Reads one LEF text into a library."""
 
     def __init__(self, text, library):
@@ -29,6 +30,8 @@ class LefReader(GeometryReader):
         text, begin = self.text, self.text.at - 1
         if word in self.forms:
             self.forms[word]()
+        elif word == 'NONDEFAULTRULE' and self.profile.is_wide:
+            self.rule()
         elif word == 'END':
             text.expect('LIBRARY')
             if text.more():
@@ -54,39 +57,6 @@ class LefReader(GeometryReader):
         while not (text.keyword() == 'END' and text.words[text.at] == name):
             pass
         text.at += 1
-
-    def statements(self, statement):
-        """Takes the statements of a block up to the word END, each by `statement`, which is given its first word in capitals."""
-        while (word := self.text.keyword()) != 'END':
-            statement(word)
-
-    def skip(self, block, word):
-        """Takes the rest of a statement of a block, which is read past."""
-        text, begin = self.text, self.text.at - 1
-        if word != ';':
-            text.skip_statement()
-            text.past(f'{block} {word}', begin)
-
-    def end(self, name):
-        """Takes the name after the END of a block."""
-        if self.text.take() != name:
-            self.text.fault(f'END {name} was expected, not {self.text.words[self.text.at - 1]}', form='END with another name')
-
-    def new_name(self, kind, records):
-        """Takes the name of a record, which none of its kind may have, and keeps its place in the text."""
-        text = self.text
-        what = kind.__name__.lower()
-        name = text.name(f'the name of a {what}')
-        if name in records:
-            text.fault(f'{what} {name} is defined twice', kind='DuplicateName', form=f'a {what} is defined twice')
-        self.library.places.setdefault((kind, name), (text, text.at - 1))
-        return name
-
-    def once(self, found, word, kind='Unexpected'):
-        """Notes that the statement of a word is there, and refuses a second one."""
-        if word in found:
-            self.text.refuse(f'{word} appears twice', kind=kind)
-        found[word] = None
 
     def layer(self):
         found = {}
@@ -168,42 +138,49 @@ class LefReader(GeometryReader):
         self.library.layers.setdefault(name, Layer(
             name, found.get('TYPE'), found.get('DIRECTION'), found.get('WIDTH') if is_routing else None, spacing or 0))
 
-    def via(self):
-        text = self.text
-        name = self.new_name(Via, self.library.vias)
-        words = []
-        while text.peek() in ('DEFAULT', 'TOPOFSTACKONLY', 'GENERATED') and text.peek() not in words:
-            words.append(text.keyword())
-        drawing = Drawing()
-        self.statements(lambda word: self.via_statement(word, drawing))
+    def rule(self):
+        """Takes a nondefault rule."""
+        text, widths = self.text, {}
+        name = self.new_name(Rule, self.library.rules)
+        self.statements(lambda word: self.rule_part(word, widths))
         self.end(name)
-        why = drawing.why_not_good or why_not_joined(self.library.layers, name, drawing.shapes)
-        if why is None:
-            self.library.vias[name] = Via(name, 'DEFAULT' in words, *joined_layers(self.library.layers, drawing.shapes), drawing.shapes)
-        else:
-            self.library.vias[name] = Via(name, 'DEFAULT' in words, None, None, [])
-            self.library.why_not_good[name] = why
+        self.library.rules.setdefault(name, Rule(name, widths))
 
-    def via_statement(self, word, drawing):
-        text, begin = self.text, self.text.at - 1
-        form = 'RECT MASK' if word == 'RECT' and text.peek() == 'MASK' and not self.profile.drops_masks else word
-        if form in ('VIARULE', 'POLYGON', 'RECT MASK'):
-            drawing.why_not_good = drawing.why_not_good or f'it has the statement {form}'
-            text.skip_statement()
-        elif word == 'LAYER':
-            drawing.layer = self.known('layer', self.library.layers)
-            text.expect(';')
-        elif word != 'RECT':
-            self.skip('VIA', word)
-        elif not drawing.layer:
-            text.refuse('RECT comes before any LAYER')
-        elif drawing.layer.has_metal():
-            self.skip_mask()
-            drawing.shapes.append((drawing.layer.name, text.corners(self.point)))
-            text.expect(';')
+    def rule_part(self, word, widths):
+        if word == 'LAYER':
+            self.layer_of_rule(widths)
+        elif word == 'VIA':
+            self.via()
+        elif word == 'SPACING':
+            begin = self.text.at - 1
+            self.text.skip_block(word)
+            self.text.past('NONDEFAULTRULE SPACING', begin)
         else:
-            text.skip_statement()
-            text.past('VIA RECT on a layer without metal', begin)
+            self.skip('NONDEFAULTRULE', word)
+
+    def layer_of_rule(self, widths):
+        """Takes a layer of a rule, with the width of the rule's wires there."""
+        text, found = self.text, {}
+        layer = self.known('layer', self.library.layers)
+        if layer.name in widths:
+            text.fault(f'layer {layer.name} appears twice in a rule', text.at - 2, form='a layer appears twice in a rule')
+        self.statements(lambda word: self.statement_of_rule(word, found))
+        if 'WIDTH' not in found:
+            text.fault(f'layer {layer.name} of a rule has no WIDTH', form='a layer of a rule has no WIDTH')
+        self.end(layer.name)
+        if found.get('WIDTH'):
+            widths.setdefault(layer.name, found['WIDTH'])
+
+    def statement_of_rule(self, word, found):
+        text = self.text
+        if word != 'WIDTH':
+            self.skip('NONDEFAULTRULE LAYER', word)
+            return
+        self.once(found, word)
+        found[word] = text.length()
+        if found[word] <= 0:
+            text.fault('the width is too small', kind='TooLarge')
+        text.expect(';')
 
     def size(self):
         """Takes a size after SIZE."""

@@ -1,4 +1,4 @@
-"""Libraries as records: layers, sites, vias and macros, in millionths of a micron or in database units."""
+"""Libraries as records: layers, sites, vias, macros and nondefault rules, in millionths of a micron or in database units."""
 from typing import Dict, List, NamedTuple, Optional, Tuple
 
 from .rects import ORIENTATIONS, Rect, moved
@@ -41,6 +41,12 @@ class Via(NamedTuple):
         return self.lower is not None
 
 
+class Rule(NamedTuple):
+    """A nondefault rule: the widths of its wires by the names of layers."""
+    name: str
+    widths: Dict[str, int]
+
+
 class MacroPin(NamedTuple):
     """A pin of a macro. Its use is the word after USE in capitals, or ''."""
     name: str
@@ -60,14 +66,15 @@ class Macro(NamedTuple):
 
 
 class Library:
-    """Layers (bottom up), sites, vias and macros by their names, in the order in which they were defined; why the vias that are not good
-    are not; and for what the macros that the wide profile has dropped are none."""
+    """Layers (bottom up), sites, vias, macros and nondefault rules by their names, in the order in which they were defined; why the vias that are
+    not good are not; and for what the macros that the wide profile has dropped are none."""
 
     def __init__(self):
         self.layers: Dict[str, Layer] = {}
         self.sites: Dict[str, Site] = {}
         self.vias: Dict[str, Via] = {}
         self.macros: Dict[str, Macro] = {}
+        self.rules: Dict[str, Rule] = {}
         self.places = {}
         self.why_not_good: Dict[str, str] = {}
         self.dropped: Dict[str, Refused] = {}
@@ -92,6 +99,8 @@ class Library:
             library.macros[macro.name] = scale.macro(macro)
         for via in self.vias.values():
             library.vias[via.name] = via._replace(shapes=scale.shapes(via.shapes, via, (0, 0)))
+        for rule in self.rules.values():
+            library.rules[rule.name] = rule._replace(widths={layer: scale.of(width, rule) for layer, width in rule.widths.items()})
         return library
 
 

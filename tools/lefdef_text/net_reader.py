@@ -3,13 +3,15 @@ from .design import Net, Patch, Segment, ViaAt
 from .entries import EntryReader
 from .figures import WideWiring
 from .rects import ORIENTATIONS
+from .rule_reader import RuleWiring
+from .turned_vias import TurnedVias
 
 UNREAD_NET_CLAUSES = ('NONDEFAULTRULE', 'SUBNET', 'VPIN', 'TAPERRULE', 'STYLE', 'MASK', 'VIRTUAL')
 # Words of wiring that would change metal, and how many words each has after it (DO n BY m STEP x y).
 UNREAD_IN_WIRING = {'TAPERRULE': 1, 'STYLE': 1, 'MASK': 1, 'VIRTUAL': 0, 'DO': 6}
 
 
-class NetReader(WideWiring, EntryReader):
+class NetReader(WideWiring, RuleWiring, TurnedVias, EntryReader):
     """Reads entries of NETS and SPECIALNETS."""
 
     def net(self):
@@ -24,6 +26,7 @@ class NetReader(WideWiring, EntryReader):
             text.refuse('MUSTJOIN is not supported', text.at, 'Unsupported')
         net = Net(self.new_name('net', entries))
         entries[net.name] = net
+        self.net_rule, has_rule = self.rule_of_entry(is_special), []
         while text.words[text.at] == '(':
             self.terminal(net, is_special)
 
@@ -37,6 +40,9 @@ class NetReader(WideWiring, EntryReader):
             elif word == 'USE':
                 self.twice(word, net.use)
                 net.use = text.word('a use')
+            elif word == 'NONDEFAULTRULE' and self.profile.is_wide and not is_special:
+                self.twice(word, has_rule)
+                has_rule.append(self.known_rule())
             elif is_special and self.is_figure(word):
                 self.wide_figure(word, net.wires)
             elif word in UNREAD_NET_CLAUSES or is_special and word in ('RECT', 'POLYGON', 'VIA'):
@@ -104,11 +110,12 @@ class NetReader(WideWiring, EntryReader):
 
     def path(self, wires, is_special):
         """Takes one path, up to NEW, + or ;. An extension that is written at a point holds for both segments that meet there."""
-        text = self.text
+        text, first = self.text, len(wires)
         layer = self.layer()
         if not layer.is_routing():
             layer = self.no_routing_layer(layer)
-        width = self.special_width() if is_special else layer.width
+        self.rule, self.ends_at = self.rule_of_path(is_special), {}
+        width = self.special_width() if is_special else self.width_on(layer)
         self.before_the_first_point(is_special)
         x, y, extension = self.path_point(None)
         ends_here = None
@@ -128,6 +135,7 @@ class NetReader(WideWiring, EntryReader):
                 self.settle(wires, ends_here, extension)
                 half = 0 if is_special else width // 2
                 ends_here = len(wires)
+                self.ends_at[ends_here] = begin
                 wires.append(Segment(layer.name, x, y, to_x, to_y, width, half if extension is None else extension, half))
                 x, y, extension = to_x, to_y, given
             elif word.upper() == 'VIRTUAL' and self.profile.is_wide and not is_special:
@@ -138,8 +146,10 @@ class NetReader(WideWiring, EntryReader):
                 wires.append(Patch(layer.name, x, y, self.patch()))
             else:
                 layer = self.path_via(layer, wires, x, y, is_special)
-                width = width if is_special else layer.width
+                width = width if is_special else self.width_on(layer)
         self.settle(wires, ends_here, extension)
+        if self.rule:
+            self.keep_metal(wires, first)
 
     def no_width(self, layer, at):
         """Refuses a segment of the width 0 on a layer, whose second point begins with the word number `at`."""
@@ -150,11 +160,8 @@ class NetReader(WideWiring, EntryReader):
         self.text.fault(f'{layer.name} is no routing layer', form='the layer of a path is no routing layer')
 
     def before_the_first_point(self, is_special):
-        """Takes what comes before the first point of a path and has no effect: + SHAPE and its word, or TAPER."""
+        """Takes what comes before the first point of a path and has no effect: + SHAPE and its word."""
         text = self.text
-        if not is_special and text.peek() == 'TAPER':
-            text.take()
-            text.past('NETS TAPER', text.at - 1)
         while text.words[text.at] != '(':
             begin = text.at
             at = begin + 1 if text.words[begin] == '+' else begin
@@ -224,14 +231,22 @@ class NetReader(WideWiring, EntryReader):
             text.unexpected('a via')
         via = self.design.vias[name] if name in self.design.vias else self.unknown('via', name)
         beyond, at = self.beyond(via, layer), text.at - 1
-        if text.peek() == 'N':
-            text.take()
-            text.past(f'{self.section_of(is_special)} N after a via', text.at - 1)
+        via = self.in_orientation(via, is_special)
         if is_special and self.profile.is_wide and text.peek() == 'DO':
             wires += self.array_of(via, (x, y), at)
         else:
             wires.append(ViaAt(via, x, y))
         return beyond
+
+    def in_orientation(self, via, is_special):
+        """Takes the orientation behind a via, if one is read there, and returns the via in it."""
+        text = self.text
+        if text.peek() == 'N':
+            text.take()
+            text.past(f'{self.section_of(is_special)} N after a via', text.at - 1)
+        elif text.peek() in ORIENTATIONS and self.profile.is_wide:
+            return self.turned_via(via, text.take().upper())
+        return via
 
     def beyond(self, via, layer):
         """Returns the layer on which a path goes on from this layer behind a via, whose name was taken last."""

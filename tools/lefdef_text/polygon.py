@@ -1,7 +1,10 @@
 """The slabs of a rectilinear polygon (docs/FORMATS.md, "Sites and macros")."""
+from bisect import insort
+from itertools import islice
+
 from .rects import Rect
 
-MOST_POINTS = 1000
+MOST_SLABS = 1_000_000
 
 
 def is_between(low, middle, high):
@@ -30,14 +33,30 @@ def has_slanted_side(points):
     return any(x != xb and y != yb for _, (x, y), (xb, yb) in neighbours(corners_of(points)))
 
 
+def why_not_read(points):
+    """Returns what a polygon through points is that is not read, or None."""
+    if has_slanted_side(points):
+        return 'a polygon with a slanted side'
+    count = len(slabs_of(points))
+    return f'a polygon with more than {MOST_SLABS:,} slabs' if count > MOST_SLABS else None if count else 'a polygon without area'
+
+
 def slabs_of(points):
     """Returns the rectangles of the unit squares inside a walk, of which no side is slanted: those west of which an odd number of vertical
-    sides are. They are from below, and from the left in each band between two heights of corners."""
+    sides are. They are from below, and from the left in each band between two heights of corners. Of more than MOST_SLABS one more is returned."""
+    return list(islice(all_slabs(points), MOST_SLABS + 1))
+
+
+def all_slabs(points):
+    """Yields the rectangles."""
     corners = corners_of(points)
-    upright = sorted((x, min(y, yb), max(y, yb)) for _, (x, y), (xb, yb) in neighbours(corners) if x == xb)
-    heights = sorted({y for _, y in corners})
-    return [rect for low, high in zip(heights, heights[1:])
-            for rect in runs([x for x, lower, upper in upright if lower <= low < upper], low, high)]
+    upright = sorted(((min(y, yb), x, max(y, yb)) for _, (x, y), (xb, yb) in neighbours(corners) if x == xb), reverse=True)
+    heights, crossing = sorted({y for _, y in corners}), []
+    for low, high in zip(heights, heights[1:]):
+        crossing = [(x, upper) for x, upper in crossing if upper > low]
+        while upright and upright[-1][0] == low:
+            insort(crossing, upright.pop()[1:])
+        yield from runs([x for x, _ in crossing], low, high)
 
 
 def runs(xs, low, high):

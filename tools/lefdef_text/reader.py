@@ -1,4 +1,5 @@
-"""What the readers of LEF and of DEF texts have: records that are named, and a profile."""
+"""What the readers of LEF and of DEF texts have: records that are named, polygons, and a profile."""
+from .polygon import MOST_SLABS, has_slanted_side, slabs_of
 from .profile import NARROW
 
 
@@ -24,6 +25,20 @@ class Reader:
         text.whole()
         text.past('MASK', begin)
         return True
+
+    def slabs(self, points, begin):
+        """Returns the slabs of the polygon through points, whose word is the word number `begin`."""
+        text = self.text
+        if has_slanted_side(points):
+            text.fault('POLYGON with a slanted side is not supported', begin, 'Unsupported')
+            return []
+        slabs = slabs_of(points)
+        if not slabs:
+            text.fault('a polygon has no area', begin, 'EmptyRect')
+        if len(slabs) > MOST_SLABS:
+            text.fault(f'a polygon has more than {MOST_SLABS:,} slabs', begin, 'TooLarge')
+            return []
+        return slabs
 
     def known(self, kind, records):
         """Takes the name of a record of this kind that was defined before, and returns the record."""

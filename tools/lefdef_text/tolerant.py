@@ -9,7 +9,7 @@ with which reading would have ended, and what follows from it is not kept as ano
 from .def_reader import DefReader, units_of
 from .design import Component, Design, Pin
 from .lef_reader import LefReader
-from .library import Layer, Library, Macro, Scale, Site, Via
+from .library import Layer, Library, Macro, Rule, Scale, Site, Via
 from .net_reader import UNREAD_IN_WIRING, NetReader
 from .profile import NARROW
 from .tolerant_words import Faults, TolerantWords
@@ -21,7 +21,7 @@ MILLIONTHS = 10 ** 6
 # A width of a routing layer that is even at any number of units, where the text gives none above 0.
 SOME_WIDTH = 2 * MILLIONTHS
 # The statements of a record whose lengths are converted.
-CONVERTED = {Layer: ('WIDTH', 'SPACING', 'SPACINGTABLE'), Site: ('SIZE',), Macro: ('SIZE', 'ORIGIN', 'RECT', 'POLYGON'), Via: ('RECT',)}
+CONVERTED = {Layer: ('WIDTH', 'SPACING', 'SPACINGTABLE'), Site: ('SIZE',), Macro: ('SIZE', 'ORIGIN', 'RECT', 'POLYGON'), Via: ('RECT', 'POLYGON'), Rule: ('WIDTH',)}
 # What stands in for what is not there.
 NO_LAYER = Layer('', None, None, 2, 0)
 STAND_INS = {
@@ -29,6 +29,7 @@ STAND_INS = {
     'site': lambda name: Site(name, 0, 0),
     'macro': lambda name: Macro(name, 0, 0, (0, 0), True, None, {}, []),
     'via': lambda name: Via(name, False, None, None, []),
+    'nondefault rule': lambda name: Rule(name, {}),
     'component': lambda name: Component(name, STAND_INS['macro'](''), 'UNPLACED', None),
     'pin': lambda name: Pin(name, None, None, None, [])}
 
@@ -89,6 +90,10 @@ class TolerantLefReader(TolerantReader, LefReader):
         super().via()
         if faults.met > before:
             faults.doubtful_vias.add(name)
+
+    def bad_via_of_geometry(self, via):
+        if via.name in self.library.vias and via.name not in self.text.faults.doubtful_vias:
+            super().bad_via_of_geometry(via)
 
     def macro(self):
         """Takes a macro; in the wide profile one with a fault is dropped, and its faults are not kept."""

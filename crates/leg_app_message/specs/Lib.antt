@@ -1,4 +1,5 @@
 pub mod Sentence
+pub mod Remedy
 pub mod Advice
 pub mod TextLine
 pub mod Note

@@ -7,7 +7,8 @@ use Rattle.leg_lex.specs.declared.read_fault.ReadFault.{ReadFault}
 use Rattle.leg_lib_records.specs.declared.scale_fault.ScaleKind.{ScaleKind}
 use Rattle.leg_lib_records.specs.declared.scale_fault.ScaleFault.{ScaleFault}
 use Rattle.leg_lib_records.specs.Records.{RawLibraryModel}
-use Rattle.leg_grammar.specs.declared.profile.Profile.TheVariants.{Narrow}
+use Rattle.leg_grammar.specs.declared.profile.Profile.{Profile}
+use Rattle.leg_grammar.specs.declared.profile.Profile.TheVariants.{Narrow, Wide}
 use Rattle.leg_grammar.specs.Lef.Library.{DenoteLibrary}
 use Rattle.leg_app_reason.specs.declared.reason.Reason.{Reason}
 use Rattle.leg_app_reason.specs.declared.reason.Reason.TheVariants.{Read, NoLibrary, Scale}
@@ -18,7 +19,8 @@ use Rattle.leg_app_message.specs.Form.{IsInForm}
 use Rattle.leg_app_message.specs.Conversion.{IsOfLibrary}
 use Rattle.leg_app_message.specs.Length.{HasFault}
 use Rattle.leg_app_message.specs.Note.{note_line, hides_line}
-use Rattle.leg_app_message.specs.Sentence.{before_of, after_of, need_text, advice_on, scale_sentence_of}
+use Rattle.leg_app_message.specs.Remedy.{advice_on}
+use Rattle.leg_app_message.specs.Sentence.{before_of, after_of, need_text, scale_sentence_of}
 use Rattle.leg_app_message.specs.TextLine.{line_of, word_at, column_of, shown_byte, shown_line, shown_word, mark_line}
 use Rattle.leg_app_message.specs.Texts.{TextsModel, path_of, part_of, text_of}
 
@@ -48,7 +50,8 @@ abbrev pub reason_of : TextsModel → List ℕ → ReadFault → Option (List �
 reason_of texts text fault master =
     if nat_lt TEXT_LIMIT (length text) then codes "the text is longer than 268,435,456 bytes"
     else before_of fault.kind (word_of text fault) ++ shown_word (word_of text fault) ++ after_of fault.kind
-    ++ need_text texts fault.need master (word_of text fault) ++ advice_on fault.kind (nat_lt fault.file (length texts.lefs)) (word_of text fault)
+    ++ need_text texts fault.need master (word_of text fault)
+    ++ advice_on texts.profile fault.kind fault.need (nat_lt fault.file (length texts.lefs)) (word_of text fault)
 
 -- the line at fault, and below it a mark under the word
 abbrev pub marked_line : List ℕ → ReadFault → List ℕ
@@ -80,9 +83,14 @@ length_message texts number line form name length reason =
     place_text texts number line ++ form ++ codes " " ++ map shown_byte name ++ codes ": " ++ length ++ reason
     ++ shown_line (line_of line (text_of texts number))
 
+-- what has lengths that are converted: nondefault rules in the wide profile alone
+abbrev pub scaled_text : Profile → List ℕ
+scaled_text Narrow = codes "layer, site, macro or via "
+scaled_text (Wide masks soft) = codes "layer, site, macro, via or rule "
+
 -- the message on a name alone
-abbrev pub name_message : List ℕ → List ℕ → List ℕ
-name_message name reason = codes "layer, site, macro or via " ++ map shown_byte name ++ codes ": a length of it" ++ reason
+abbrev pub name_message : Profile → List ℕ → List ℕ → List ℕ
+name_message profile name reason = scaled_text profile ++ map shown_byte name ++ codes ": a length of it" ++ reason
 
 -- the message of what to do about a reason, where the DEF has this path
 abbrev pub advice_message : {A : Type 0} → TextsModel → Reason A → List ℕ
@@ -107,7 +115,7 @@ pub record ShowsLength (texts : TextsModel) (fault : ScaleFault) (units : ℕ) (
 -- a length is shown, or what has it is named
 abbrev pub IsScaleMessage : TextsModel → ScaleFault → ℕ → List ℕ → Type 0
 IsScaleMessage texts fault units message =
-    ShowsLength texts fault units message ⊎ (message ≡ name_message fault.name (scale_reason fault.kind units))
+    ShowsLength texts fault units message ⊎ (message ≡ name_message texts.profile fault.name (scale_reason fault.kind units))
 
 -- The message on a run that stopped for this reason.
 abbrev pub IsMessage : {A : Type 0} → TextsModel → Reason A → List ℕ → Type 0

@@ -1,5 +1,5 @@
 -- What is wrong with a text, in words.
-use Rattle.std.specs.Prelude.{ℕ, Bool, List, [], ◌∷◌, ◌++◌, ◌||◌, ◌==◌, if◌then◌else◌, Option, None, Some, map, codes, decimal}
+use Rattle.std.specs.Prelude.{ℕ, List, [], ◌∷◌, ◌++◌, ◌==◌, if◌then◌else◌, Option, None, Some, map, codes, decimal}
 use Rattle.std.specs.List.{list_any}
 use Rattle.std.specs.Fmt.{signed_decimal}
 use Rattle.leg_lex.specs.declared.read_fault.FaultKind.{FaultKind}
@@ -11,7 +11,6 @@ use Rattle.leg_lex.specs.declared.read_fault.Entry.TheVariants as entries
 use Rattle.leg_lex.specs.declared.read_fault.Need.{Need}
 use Rattle.leg_lex.specs.declared.read_fault.Need.TheVariants as needs
 use Rattle.leg_lex.specs.Keyword.{keyword_text}
-use Rattle.leg_lex.specs.Words.{is_keyword}
 use Rattle.leg_lib_records.specs.declared.scale_fault.ScaleKind.{ScaleKind}
 use Rattle.leg_lib_records.specs.declared.scale_fault.ScaleKind.TheVariants as scale
 use Rattle.leg_app_message.specs.TextLine.{shown_byte}
@@ -63,6 +62,7 @@ name_text names.Component = codes "a component"
 name_text names.Pin = codes "a pin of the block"
 name_text names.MacroPin = codes "a pin of the macro"
 name_text names.Net = codes "an entry of this section"
+name_text names.Rule = codes "a nondefault rule"
 
 -- where a name that is not known should be defined
 abbrev pub known_text : NameKind → List ℕ
@@ -74,6 +74,7 @@ known_text names.Component = codes ": check its spelling, in which capitals coun
 known_text names.Pin = codes ": check its spelling, in which capitals count"
 known_text names.MacroPin = codes ": check its spelling, in which capitals count"
 known_text names.Net = codes ": check its spelling, in which capitals count"
+known_text names.Rule = codes " of the LEFs or of NONDEFAULTRULES: check its spelling, in which capitals count, and that the LEF that defines it is given"
 
 -- how many entries there may be
 abbrev pub most_text : Entry → List ℕ
@@ -93,6 +94,7 @@ rename_text names.Component = codes ": rename or remove one of the two"
 rename_text names.Pin = codes ": rename or remove one of the two"
 rename_text names.MacroPin = codes ": rename or remove one of the two"
 rename_text names.Net = codes ": rename or join the two (tools/from-qflow joins entries of SPECIALNETS)"
+rename_text names.Rule = codes ": rename or remove one of the two"
 
 -- what to do about a number of a DEF that has a point
 abbrev pub point_text : List ℕ → List ℕ
@@ -169,42 +171,6 @@ last_text need word = []
 -- what is needed in the place of this word
 abbrev pub need_text : TextsModel → Need → Option (List ℕ) → List ℕ → List ℕ
 need_text texts need master word = first_text need ++ middle_text texts need master ++ last_text need word
-
--- an orientation other than N
-abbrev pub is_turn : List ℕ → Bool
-is_turn word =
-    is_keyword (codes "S") word || is_keyword (codes "W") word || is_keyword (codes "E") word || is_keyword (codes "FN") word
-    || is_keyword (codes "FS") word || is_keyword (codes "FW") word || is_keyword (codes "FE") word
-
--- what reads a form of a DEF, by the word for which it is not supported: an option, or a tool that writes it in another way
-abbrev pub def_remedy : List ℕ → List ℕ
-def_remedy word =
-    if is_keyword (codes "VIARULE") word then codes ": with --wide before the command such a via is read"
-    else (if is_keyword (codes "DO") word then codes ": with --wide before the command an array of vias is read in SPECIALNETS"
-    else (if is_keyword (codes "RECT") word || is_keyword (codes "VIA") word then codes ": with --wide before the command it is read in SPECIALNETS and PINS"
-    else (if is_keyword (codes "VIRTUAL") word then codes ": with --wide before the command it is read in NETS"
-    else (if is_keyword (codes "COMPONENT") word || is_keyword (codes "SLOTS") word || is_keyword (codes "FILLS") word then codes ": with --wide before the command it is read"
-    else (if is_keyword (codes "MASK") word then codes ": with --wide --masks drop before the command it is read past"
-    else (if is_keyword (codes "SOFT") word || is_keyword (codes "PARTIAL") word then codes ": with --wide --soft drop before the command such a blockage is taken out, and with --wide --soft hard it is one as any other"
-    else (if is_keyword (codes "NONDEFAULTRULE") word || is_keyword (codes "TAPERRULE") word then codes ": tools/plain-def writes paths of such a rule as rectangles and vias of its widths"
-    else (if is_keyword (codes "POLYGON") word then codes ": tools/plain-def writes rectilinear polygons of PINS, BLOCKAGES and SPECIALNETS as rectangles or wires"
-    else (if is_turn word then codes ": tools/plain-def writes a via that is turned as a via of its own"
-    else [])))))))))
-
--- the same of a LEF
-abbrev pub lef_remedy : List ℕ → List ℕ
-lef_remedy word =
-    if is_keyword (codes "POLYGON") word then codes ": with --wide before the command it is read, if it is rectilinear"
-    else (if is_keyword (codes "ITERATE") word then codes ": tools/plain-lef writes each rectangle of such an array"
-    else (if is_keyword (codes "EXCEPTPGNET") word then codes ": with --wide before the command it is read past"
-    else (if is_keyword (codes "MASK") word then codes ": with --wide --masks drop before the command it is read past"
-    else (if is_keyword (codes "PATH") word || is_keyword (codes "VIA") word then codes ": with --wide before the command a macro that has it is left out"
-    else []))))
-
--- what to do about a fault of this kind, by the word at fault, in a LEF or else in a DEF
-abbrev pub advice_on : FaultKind → Bool → List ℕ → List ℕ
-advice_on kinds.Unsupported is_lef word = if is_lef then lef_remedy word else def_remedy word
-advice_on kind is_lef word = []
 
 -- a length that isn't one in database units
 abbrev pub scale_sentence_of : ScaleKind → List ℕ

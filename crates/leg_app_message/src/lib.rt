@@ -10,6 +10,7 @@ mod limits;
 mod note;
 mod noting_writer;
 mod refused;
+mod remedy;
 mod run_message;
 mod scaling;
 mod sentence;

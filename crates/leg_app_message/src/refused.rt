@@ -1,11 +1,13 @@
 //! The message on a line of a text.
 
-ghost use Rattle.std.specs.Prelude.{◌≡◌, ◌<◌, ◌^◌, ◌++◌, Option, IfOk, OnOk};
+ghost use Rattle.std.specs.Prelude.{◌≡◌, ◌<◌, ◌^◌, ◌++◌, Option, IfOk, OnOk, nat_lt, length};
+ghost use Rattle.leg_app_message.specs.Remedy.{advice_on};
 ghost use Rattle.leg_app_message.specs.declared.note.Note.{Note};
 ghost use Rattle.leg_app_message.specs.Message.{place_text, word_place_text, fault_place, fault_message, line_message, reason_of, marked_line, word_of};
 
 use crate::note::{Note, empty_lef_note, hides_line, last_word_note, note_line, note_of};
-use crate::sentence::{advice_on, after_of, before_of, push_need};
+use crate::remedy::advice_on;
+use crate::sentence::{after_of, before_of, push_need};
 use crate::text_line::{column_of, line_of, push_mark, push_shown, push_word, word_at};
 use crate::texts::Texts;
 use leg_lex::{ReadFault, TEXT_LIMIT};
@@ -136,6 +138,14 @@ fn push_fault_place<A: Allocator>(
     }
 }
 
+/// What to do about a fault, by the word at fault.
+fn fault_advice(texts: &Texts<'_>, fault: &ReadFault, word: &[u8]) -> &'static [u8]
+    ensures { result.now ≡ advice_on texts.now.profile fault.now.kind fault.now.need (nat_lt fault.now.file (length texts.now.lefs)) word.now }
+{
+    let is_lef = (fault.file as usize) < texts.def_number();
+    advice_on(texts.profile, fault.kind, fault.need, is_lef, word)
+}
+
 /// Adds why the text is refused.
 fn push_reason<A: Allocator, B: Allocator>(
     message: &mut Vec<u8, A>,
@@ -154,8 +164,7 @@ fn push_reason<A: Allocator, B: Allocator>(
     push_word(message, word)?;
     message.extend_from_slice(after_of(fault.kind))?;
     push_need(message, texts, fault.need, master, word)?;
-    let is_lef = (fault.file as usize) < texts.def_number();
-    message.extend_from_slice(advice_on(fault.kind, is_lef, word))
+    message.extend_from_slice(fault_advice(texts, fault, word))
 }
 
 /// Adds the line at fault, and below it a mark under the word.

@@ -7,13 +7,14 @@ ghost use Rattle.leg_lex.specs.Tokens.{AreTokens};
 ghost use Rattle.leg_app_message.specs.Form.{begins_form, ends_form, from_form, is_form, up_to_end, IsInForm};
 ghost use Rattle.leg_app_message.specs.Conversion.{begins_lengths, IsBehind, IsOfLibrary};
 ghost use Rattle.leg_app_message.specs.Length.{HasFault};
-ghost use Rattle.leg_app_message.specs.Message.{length_message, name_message, scale_reason, IsScaleMessage};
+ghost use Rattle.leg_app_message.specs.Message.{length_message, scaled_text, name_message, scale_reason, IsScaleMessage};
 
 use crate::conversion::{begins_lengths, is_of_library};
 use crate::refused::push_place;
 use crate::sentence::scale_sentence_of;
 use crate::text_line::{line_of, push_shown, push_shown_bytes};
 use crate::texts::Texts;
+use leg_grammar::Profile;
 use leg_lex::{NumFault, Token, UNITS_LIMIT, is_keyword, micron, tokens};
 use leg_lib::read_lefs_as;
 use leg_lib_records::{RawLibrary, ScaleFault, ScaleKind};
@@ -42,25 +43,36 @@ pub(crate) fn scale_message<A: Allocator + Copy>(
     ensures { IfOk result (λ m. IsScaleMessage texts.now fault.now units m.items) }
 {
     let Ok(library) = read_lefs_as(alloc, texts.profile, texts.lefs) else {
-        return name_message(alloc, fault, units);
+        return name_message(alloc, texts.profile, fault, units);
     };
     for number in 0..texts.def_number() {
         if let Some(written) = written_in(alloc, texts.text(number), &library, fault, units) {
             return written_message(alloc, texts, number, fault, units, &written);
         }
     }
-    name_message(alloc, fault, units)
+    name_message(alloc, texts.profile, fault, units)
+}
+
+/// What has lengths that are converted: nondefault rules in the wide profile alone.
+fn scaled_text(profile: Profile) -> &'static [u8]
+    ensures { result.now ≡ scaled_text profile }
+{
+    match profile {
+        Profile::Narrow => b"layer, site, macro or via ",
+        Profile::Wide { .. } => b"layer, site, macro, via or rule ",
+    }
 }
 
 /// The message on a length that isn't found, by the name alone.
 fn name_message<A: Allocator + Copy>(
     alloc: A,
+    profile: Profile,
     fault: &ScaleFault<'_>,
     units: u32,
 ) -> Result<Vec<u8, A>, AllocError>
-    ensures { IfOk result (λ m. m.items ≡ name_message fault.now.name (scale_reason fault.now.kind units)) }
+    ensures { IfOk result (λ m. m.items ≡ name_message profile fault.now.name (scale_reason fault.now.kind units)) }
 {
-    let mut message = Vec::from_slice(alloc, b"layer, site, macro or via ")?;
+    let mut message = Vec::from_slice(alloc, scaled_text(profile))?;
     push_shown_bytes(&mut message, fault.name.bytes())?;
     message.extend_from_slice(b": a length of it")?;
     push_reason(&mut message, fault.kind, units)?;

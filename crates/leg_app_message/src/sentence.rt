@@ -3,11 +3,11 @@
 ghost use Rattle.std.specs.Prelude.{◌≡◌, ◌==◌, ◌++◌, codes, decimal, OnOk};
 ghost use Rattle.leg_app_message.specs.Texts.{path_of};
 ghost use Rattle.std.specs.List.{list_any};
-ghost use Rattle.leg_app_message.specs.Sentence.{end_text, before_of, after_of, point_text, name_text, known_text, most_text, rename_text, first_text, master_text, middle_text, last_text, need_text, is_turn, def_remedy, lef_remedy, advice_on, scale_sentence_of};
+ghost use Rattle.leg_app_message.specs.Sentence.{end_text, before_of, after_of, point_text, name_text, known_text, most_text, rename_text, first_text, master_text, middle_text, last_text, need_text, scale_sentence_of};
 
 use crate::text_line::push_shown_bytes;
 use crate::texts::Texts;
-use leg_lex::{Entry, FaultKind, NameKind, Need, is_keyword};
+use leg_lex::{Entry, FaultKind, NameKind, Need};
 use leg_lib_records::{Items, ScaleKind};
 use leg_print_words::{push_count, push_decimal};
 use std::alloc::{AllocError, Allocator};
@@ -80,6 +80,7 @@ fn name_text(kind: NameKind) -> &'static [u8]
         NameKind::Pin => b"a pin of the block",
         NameKind::MacroPin => b"a pin of the macro",
         NameKind::Net => b"an entry of this section",
+        NameKind::Rule => b"a nondefault rule",
     }
 }
 
@@ -100,6 +101,8 @@ fn known_text(kind: NameKind) -> &'static [u8]
         NameKind::Pin => b": check its spelling, in which capitals count",
         NameKind::MacroPin => b": check its spelling, in which capitals count",
         NameKind::Net => b": check its spelling, in which capitals count",
+        NameKind::Rule =>
+            b" of the LEFs or of NONDEFAULTRULES: check its spelling, in which capitals count, and that the LEF that defines it is given",
     }
 }
 
@@ -117,6 +120,7 @@ fn rename_text(kind: NameKind) -> &'static [u8]
         NameKind::MacroPin => b": rename or remove one of the two",
         NameKind::Net =>
             b": rename or join the two (tools/from-qflow joins entries of SPECIALNETS)",
+        NameKind::Rule => b": rename or remove one of the two",
     }
 }
 
@@ -293,81 +297,6 @@ pub(crate) fn push_need<A: Allocator, B: Allocator>(
     message.extend_from_slice(first_text(need))?;
     push_middle(message, texts, need, master)?;
     message.extend_from_slice(last_text(need, word))
-}
-
-/// Whether a word is an orientation other than N.
-fn is_turn(word: &[u8]) -> bool
-    ensures { result ≡ is_turn word.now }
-{
-    is_keyword(b"S", word)
-        || is_keyword(b"W", word)
-        || is_keyword(b"E", word)
-        || is_keyword(b"FN", word)
-        || is_keyword(b"FS", word)
-        || is_keyword(b"FW", word)
-        || is_keyword(b"FE", word)
-}
-
-/// What reads a form of a DEF, by the word for which it is not supported: an option, or a tool that writes it in another way.
-fn def_remedy(word: &[u8]) -> &'static [u8]
-    ensures { result.now ≡ def_remedy word.now }
-{
-    if is_keyword(b"VIARULE", word) {
-        b": with --wide before the command such a via is read"
-    } else if is_keyword(b"DO", word) {
-        b": with --wide before the command an array of vias is read in SPECIALNETS"
-    } else if is_keyword(b"RECT", word) || is_keyword(b"VIA", word) {
-        b": with --wide before the command it is read in SPECIALNETS and PINS"
-    } else if is_keyword(b"VIRTUAL", word) {
-        b": with --wide before the command it is read in NETS"
-    } else if is_keyword(b"COMPONENT", word)
-        || is_keyword(b"SLOTS", word)
-        || is_keyword(b"FILLS", word)
-    {
-        b": with --wide before the command it is read"
-    } else if is_keyword(b"MASK", word) {
-        b": with --wide --masks drop before the command it is read past"
-    } else if is_keyword(b"SOFT", word) || is_keyword(b"PARTIAL", word) {
-        b": with --wide --soft drop before the command such a blockage is taken out, and with --wide --soft hard it is one as any other"
-    } else if is_keyword(b"NONDEFAULTRULE", word) || is_keyword(b"TAPERRULE", word) {
-        b": tools/plain-def writes paths of such a rule as rectangles and vias of its widths"
-    } else if is_keyword(b"POLYGON", word) {
-        b": tools/plain-def writes rectilinear polygons of PINS, BLOCKAGES and SPECIALNETS as rectangles or wires"
-    } else if is_turn(word) {
-        b": tools/plain-def writes a via that is turned as a via of its own"
-    } else {
-        b""
-    }
-}
-
-/// The same of a LEF.
-fn lef_remedy(word: &[u8]) -> &'static [u8]
-    ensures { result.now ≡ lef_remedy word.now }
-{
-    if is_keyword(b"POLYGON", word) {
-        b": with --wide before the command it is read, if it is rectilinear"
-    } else if is_keyword(b"ITERATE", word) {
-        b": tools/plain-lef writes each rectangle of such an array"
-    } else if is_keyword(b"EXCEPTPGNET", word) {
-        b": with --wide before the command it is read past"
-    } else if is_keyword(b"MASK", word) {
-        b": with --wide --masks drop before the command it is read past"
-    } else if is_keyword(b"PATH", word) || is_keyword(b"VIA", word) {
-        b": with --wide before the command a macro that has it is left out"
-    } else {
-        b""
-    }
-}
-
-/// What to do about a fault of this kind, by the word at fault, in a LEF or else in a DEF.
-pub(crate) fn advice_on(kind: FaultKind, is_lef: bool, word: &[u8]) -> &'static [u8]
-    ensures { result.now ≡ advice_on kind is_lef word.now }
-{
-    match kind {
-        FaultKind::Unsupported if is_lef => lef_remedy(word),
-        FaultKind::Unsupported => def_remedy(word),
-        _ => b"",
-    }
 }
 
 /// What is wrong with a length, by the kind of the fault.

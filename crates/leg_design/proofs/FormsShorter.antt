@@ -13,15 +13,15 @@ use Rattle.leg_grammar.specs.Def.NetScope.{NetScopeModel}
 use Rattle.leg_design_records.specs.Records.{NetModel}
 use Rattle.leg_grammar.specs.Def.Net.{net_entry, nets_at}
 use Rattle.leg_design_records.specs.Names.{net_section}
-use Rattle.leg_grammar.specs.Def.Parts.{DesignParts, net_scope, divider_form, bus_form, name_form, units_form, die_form, kept_row_form, dropped_row_form, row_form, track_form, vias_form, components_form, pins_form, blockages_form, nets_form, special_form}
+use Rattle.leg_grammar.specs.Def.Parts.{DesignParts, parts_scope, divider_form, bus_form, name_form, units_form, die_form, kept_row_form, dropped_row_form, row_form, track_form, rules_form, vias_form, components_form, pins_form, blockages_form, nets_form, special_form, turned_parts, nets_section_form, special_section_form}
 use Rattle.leg_grammar.specs.Def.SkippedForms.{is_past_statement, is_past_section, past_def_section, past_def_form}
 use Rattle.leg_grammar.specs.Def.Form.{header_form, def_form_at}
+use Rattle.leg_design_common.proofs.Either.{below_either}
 use Rattle.leg_design_common.proofs.Sections.{section_below}
 use Rattle.leg_design.proofs.Headers.{word_after_below, design_name_below, units_below}
 use Rattle.leg_design_floorplan.proofs.Dies.{die_below}
 use Rattle.leg_design_floorplan.proofs.Rows.{row_below}
 use Rattle.leg_design_floorplan.proofs.DroppedRows.{dropped_row_below}
-use Rattle.leg_design.proofs.Either.{below_either}
 use Rattle.leg_design_floorplan.proofs.Tracks.{track_below}
 use Rattle.leg_design_floorplan.proofs.Vias.{vias_below}
 use Rattle.leg_design_floorplan.proofs.Components.{components_below}
@@ -107,6 +107,11 @@ unfolding track_form
 track_form_below parts words =
     below_bind (omega arith) (track_below parts.profile parts.design.library words) (λ track l. below_some _ track.1 l)
 
+rules_form_below : (profile : Profile) (parts : DesignParts) (words : Words) → Below (length words) (rules_form profile parts words)
+unfolding rules_form
+rules_form_below Narrow parts words = below_bind (omega arith) (past_section_below words) (λ section l. below_some parts section.1 l)
+rules_form_below (Wide masks soft) parts words = below_bind (omega arith) (past_section_below words) (λ section l. below_some _ section.1 l)
+
 vias_form_below : (parts : DesignParts) (words : Words) → Below (length words) (vias_form parts words)
 unfolding vias_form
 vias_form_below parts words =
@@ -123,7 +128,7 @@ pins_form_below : (parts : DesignParts) (words : Words) → Below (length words)
 unfolding pins_form
 pins_form_below parts words =
     below_ask (unless parts.has.pins) (λ once.
-    below_bind (omega arith) (pins_below (net_scope parts.profile parts.design) words) (λ pins l. below_some _ pins.1 l))
+    below_bind (omega arith) (pins_below (parts_scope parts) words) (λ pins l. below_some _ pins.1 l))
 
 blockages_form_below : (parts : DesignParts) (words : Words) → Below (length words) (blockages_form parts words)
 unfolding blockages_form
@@ -131,17 +136,28 @@ blockages_form_below parts words =
     below_ask (unless parts.has.blockages) (λ once.
     below_bind (omega arith) (blockages_below parts.profile parts.design.library words) (λ blockages l. below_some _ blockages.1 l))
 
+nets_section_below : (parts : DesignParts) (words : Words) → Below (length words) (nets_section_form parts words)
+unfolding nets_section_form
+nets_section_below parts words =
+    below_bind (omega arith) (nets_below (parts_scope parts) false parts.design.special words) (λ nets l. below_some _ nets.1 l)
+
 nets_form_below : (parts : DesignParts) (words : Words) → Below (length words) (nets_form parts words)
 unfolding nets_form
 nets_form_below parts words =
     below_ask (unless parts.has.nets) (λ once.
-    below_bind (omega arith) (nets_below (net_scope parts.profile parts.design) false parts.design.special words) (λ nets l. below_some _ nets.1 l))
+    below_either _ _ (nets_section_below parts words) (below_ask (turned_parts parts.profile parts words) (λ turned. nets_section_below turned words)))
+
+special_section_below : (parts : DesignParts) (words : Words) → Below (length words) (special_section_form parts words)
+unfolding special_section_form
+special_section_below parts words =
+    below_bind (omega arith) (nets_below (parts_scope parts) true parts.design.nets words) (λ special l. below_some _ special.1 l)
 
 special_form_below : (parts : DesignParts) (words : Words) → Below (length words) (special_form parts words)
 unfolding special_form
 special_form_below parts words =
     below_ask (unless parts.has.special) (λ once.
-    below_bind (omega arith) (nets_below (net_scope parts.profile parts.design) true parts.design.nets words) (λ special l. below_some _ special.1 l))
+    below_either _ _ (special_section_below parts words)
+    (below_ask (turned_parts parts.profile parts words) (λ turned. special_section_below turned words)))
 
 header_form_below : (parts : DesignParts) (words : Words) → Below (length words) (header_form parts words)
 unfolding header_form
@@ -153,7 +169,8 @@ header_form_below parts words =
     (below_if (is_at (codes "DIEAREA") words) (die_form_below parts words)
     (below_if (is_at (codes "ROW") words) (row_form_below parts words)
     (below_if (is_at (codes "TRACKS") words) (track_form_below parts words)
-    (below_bind (omega arith) (past_form_below parts.profile words) (λ form l. below_some parts form.1 l))))))))
+    (below_if (is_at (codes "NONDEFAULTRULES") words) (rules_form_below parts.profile parts words)
+    (below_bind (omega arith) (past_form_below parts.profile words) (λ form l. below_some parts form.1 l)))))))))
 
 pub form_shortens : Shortens def_form_at
 unfolding def_form_at

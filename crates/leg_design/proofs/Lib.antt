@@ -2,8 +2,7 @@
 mod Microns
 mod Headers
 mod Skips
--- One form, or else another.
-mod Either
+mod TurnedParts
 -- That each form shortens the words that are left.
 mod FormsShorter
 mod Forms

@@ -13,7 +13,7 @@ use Rattle.leg_design_records.specs.declared.records.Terminal.{Terminal}
 use Rattle.leg_design_records.specs.declared.records.Terminal.TheVariants.{Comp, Pin}
 use Rattle.leg_design_records.specs.Records.{NetModel, DesignModel}
 use Rattle.leg_grammar.specs.declared.profile.Profile.{Profile}
-use Rattle.leg_grammar.specs.Def.Parts.{DesignParts, no_parts, net_scope}
+use Rattle.leg_grammar.specs.Def.Parts.{DesignParts, no_parts, parts_scope}
 use Rattle.leg_grammar.specs.Def.Form.{def_form_at, all_nets, with_all_nets, design_of, design_in}
 use Rattle.leg_design_records.specs.WellFormedNets.{IsTerminal, IsNet, HasNets}
 use Rattle.leg_design_records.specs.WellFormed.{IsWellFormed}
@@ -39,18 +39,18 @@ module _ (parts : DesignParts) where
   said : DesignModel
   said = with_all_nets parts.design
 
-  terminal_is : (t : Terminal) → IsKnownTerminal (net_scope parts.profile parts.design) t → IsTerminal said t
+  terminal_is : (t : Terminal) → IsKnownTerminal (parts_scope parts) t → IsTerminal said t
   unfolding said
   terminal_is (Comp c k) is = is
   terminal_is (Pin p) is = is
 
-  net_is : (special : Bool) (net : NetModel) → IsKnownNet (net_scope parts.profile parts.design) special net → IsNet said special net
+  net_is : (special : Bool) (net : NetModel) → IsKnownNet (parts_scope parts) special net → IsNet said special net
   unfolding said
   net_is special net is = record {
     name = is.name;
     no_must_join = is.no_must_join;
     usage = is.usage;
-    terminals = All-weaker (IsKnownTerminal (net_scope parts.profile parts.design)) (IsTerminal said) terminal_is net.terminals is.terminals;
+    terminals = All-weaker (IsKnownTerminal (parts_scope parts)) (IsTerminal said) terminal_is net.terminals is.terminals;
     once = is.once;
     wires = is.wires;
   }
@@ -58,16 +58,16 @@ module _ (parts : DesignParts) where
   nets_are : HasNetParts parts → nat_lt PART_LIMIT (all_terminals parts.design) ≡ false → HasNets said
   unfolding said
   nets_are sound few =
-      let all = lone_pins_listed (net_scope parts.profile parts.design) (lists_of parts.design.nets parts.design.special) sound.entries in
+      let all = lone_pins_listed (parts_scope parts) (lists_of parts.design.nets parts.design.special) sound.entries in
       let entries = all.entries in
       record {
         nets = record {
-          each = All-weaker (IsKnownNet (net_scope parts.profile parts.design) false) (IsNet said false) (net_is false)
+          each = All-weaker (IsKnownNet (parts_scope parts) false) (IsNet said false) (net_is false)
               (all_nets parts.design).nets entries.nets;
           apart = entries.nets_apart;
         };
         special = record {
-          each = All-weaker (IsKnownNet (net_scope parts.profile parts.design) true) (IsNet said true) (net_is true)
+          each = All-weaker (IsKnownNet (parts_scope parts) true) (IsNet said true) (net_is true)
               (all_nets parts.design).special entries.special;
           apart = entries.special_apart;
         };

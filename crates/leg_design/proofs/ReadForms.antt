@@ -13,17 +13,18 @@ use Rattle.leg_design_records.specs.Records.{TrackModel, PinModel, BlockageModel
 use Rattle.leg_grammar.specs.declared.profile.Profile.{Profile}
 use Rattle.leg_grammar.specs.declared.profile.Profile.TheVariants.{Narrow, Wide}
 use Rattle.leg_grammar.specs.Def.DroppedRow.{dropped_row_at}
-use Rattle.leg_grammar.specs.Def.Parts.{DesignParts, no_parts, net_scope, divider_form, bus_form, name_form, units_form, die_form, kept_row_form, dropped_row_form, row_form, track_form, vias_form, components_form, pins_form, blockages_form, nets_form, special_form}
-use Rattle.leg_grammar.specs.Def.SkippedForms.{past_def_form}
+use Rattle.leg_grammar.specs.Def.Parts.{DesignParts, no_parts, net_scope, parts_scope, divider_form, bus_form, name_form, units_form, die_form, kept_row_form, dropped_row_form, row_form, track_form, rules_form, vias_form, components_form, pins_form, blockages_form, nets_form, special_form, with_turned_vias, turned_parts, nets_section_form, special_section_form}
+use Rattle.leg_grammar.specs.Def.SkippedForms.{past_def_section, past_def_form}
 use Rattle.leg_grammar.specs.Def.Form.{header_form, def_form_at}
 use Rattle.leg_design_records.specs.WellFormedParts.{IsKept, IsArea, AreComponents, IsRow, IsTrack, AreVias, ArePins, AreBlockages}
-use Rattle.leg_design.proofs.Either.{gives_either}
 use Rattle.leg_design_common.proofs.Gives.{Gives, gives_none, gives_some, gives_bind, gives_skip, gives_if, name_gives, word_gives}
+use Rattle.leg_design_common.proofs.Either.{gives_either}
 use Rattle.leg_design_floorplan.proofs.ReadDie.{die_gives}
 use Rattle.leg_design_floorplan.proofs.ReadComponents.{components_give, no_components}
 use Rattle.leg_design_floorplan.proofs.ReadRows.{row_gives}
 use Rattle.leg_design_floorplan.proofs.ReadTracks.{track_gives}
 use Rattle.leg_design_floorplan.proofs.ReadVias.{vias_give, no_vias}
+use Rattle.leg_design_floorplan.proofs.ReadTurnedVias.{turned_vias_are}
 use Rattle.leg_design_floorplan.proofs.ReadPins.{pins_give, no_pins}
 use Rattle.leg_design_floorplan.proofs.ReadBlockages.{blockages_give, no_blockages}
 
@@ -199,6 +200,13 @@ module _ (library : LibraryModel) (parts : DesignParts) (words : Words) (sound :
         sections = sound.sections;
       }))
 
+  rules_keep : (profile : Profile) → Keeps (rules_form profile parts words)
+  unfolding rules_form
+  rules_keep Narrow = gives_skip (past_def_section words) (λ section. gives_some _ sound)
+  rules_keep (Wide masks soft) =
+      gives_skip (past_def_section words) (λ section.
+      gives_some _ (record { same = sound.same; header = sound.header; sections = sound.sections }))
+
   vias_keep : Keeps (vias_form parts words)
   unfolding vias_form
   vias_keep =
@@ -228,7 +236,7 @@ module _ (library : LibraryModel) (parts : DesignParts) (words : Words) (sound :
   pins_keep =
       let sections = sound.sections in
       gives_skip (unless parts.has.pins) (λ once.
-      gives_bind (pins_give (net_scope parts.profile parts.design) words) (λ pins each.
+      gives_bind (pins_give (parts_scope parts) words) (λ pins each.
       gives_some _ (record {
         same = sound.same;
         header = sound.header;
@@ -247,19 +255,42 @@ module _ (library : LibraryModel) (parts : DesignParts) (words : Words) (sound :
         sections = record { vias_ = sections.vias_; components_ = sections.components_; pins_ = sections.pins_; blockages_ = are };
       })))
 
+  -- with the vias that words turn they are sound too
+  turned_keeps : (profile : Profile) → Gives (HasSoundParts library) (turned_parts profile parts words)
+  unfolding turned_parts with_turned_vias
+  turned_keeps Narrow = gives_none
+  turned_keeps (Wide masks soft) =
+      let sections = sound.sections in
+      gives_bind (turned_vias_are parts.design.library (record { vias = parts.design.vias; turned = parts.turned }) words sections.vias_) (λ made are.
+      gives_some _ (record {
+        same = sound.same;
+        header = sound.header;
+        sections = record { vias_ = are; components_ = sections.components_; pins_ = sections.pins_; blockages_ = sections.blockages_ };
+      }))
+
+  nets_section_keeps : (made : DesignParts) → HasSoundParts library made → Keeps (nets_section_form made words)
+  unfolding nets_section_form
+  nets_section_keeps made holds =
+      gives_skip (nets_at (parts_scope made) false made.design.special words) (λ nets.
+      gives_some _ (record { same = holds.same; header = holds.header; sections = holds.sections }))
+
   nets_keep : Keeps (nets_form parts words)
   unfolding nets_form
   nets_keep =
       gives_skip (unless parts.has.nets) (λ once.
-      gives_skip (nets_at (net_scope parts.profile parts.design) false parts.design.special words) (λ nets.
-      gives_some _ (record { same = sound.same; header = sound.header; sections = sound.sections })))
+      gives_either _ _ (nets_section_keeps parts sound) (gives_bind (turned_keeps parts.profile) nets_section_keeps))
+
+  special_section_keeps : (made : DesignParts) → HasSoundParts library made → Keeps (special_section_form made words)
+  unfolding special_section_form
+  special_section_keeps made holds =
+      gives_skip (nets_at (parts_scope made) true made.design.nets words) (λ special.
+      gives_some _ (record { same = holds.same; header = holds.header; sections = holds.sections }))
 
   special_keep : Keeps (special_form parts words)
   unfolding special_form
   special_keep =
       gives_skip (unless parts.has.special) (λ once.
-      gives_skip (nets_at (net_scope parts.profile parts.design) true parts.design.nets words) (λ special.
-      gives_some _ (record { same = sound.same; header = sound.header; sections = sound.sections })))
+      gives_either _ _ (special_section_keeps parts sound) (gives_bind (turned_keeps parts.profile) special_section_keeps))
 
   header_keeps : Keeps (header_form parts words)
   unfolding header_form
@@ -271,7 +302,8 @@ module _ (library : LibraryModel) (parts : DesignParts) (words : Words) (sound :
       (gives_if (is_at (codes "DIEAREA") words) die_keeps
       (gives_if (is_at (codes "ROW") words) row_keeps
       (gives_if (is_at (codes "TRACKS") words) track_keeps
-      (gives_skip (past_def_form parts.profile words) (λ form. gives_some _ sound))))))))
+      (gives_if (is_at (codes "NONDEFAULTRULES") words) (rules_keep parts.profile)
+      (gives_skip (past_def_form parts.profile words) (λ form. gives_some _ sound)))))))))
 
   pub form_keeps : Keeps (def_form_at parts words)
   unfolding def_form_at

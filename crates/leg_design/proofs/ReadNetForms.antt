@@ -20,15 +20,17 @@ use Rattle.leg_design_records.specs.Records.{NetModel, wire_count}
 use Rattle.leg_grammar.specs.declared.profile.Profile.{Profile}
 use Rattle.leg_grammar.specs.declared.profile.Profile.TheVariants.{Narrow, Wide}
 use Rattle.leg_grammar.specs.Def.DroppedRow.{dropped_row_at}
-use Rattle.leg_grammar.specs.Def.Parts.{DesignParts, no_parts, net_scope, divider_form, bus_form, name_form, units_form, die_form, kept_row_form, dropped_row_form, row_form, track_form, vias_form, components_form, pins_form, blockages_form, nets_form, special_form}
-use Rattle.leg_grammar.specs.Def.SkippedForms.{past_def_form}
+use Rattle.leg_grammar.specs.Def.Parts.{DesignParts, no_parts, net_scope, parts_scope, divider_form, bus_form, name_form, units_form, die_form, kept_row_form, dropped_row_form, row_form, track_form, rules_form, vias_form, components_form, pins_form, blockages_form, nets_form, special_form, with_turned_vias, turned_parts, nets_section_form, special_section_form}
+use Rattle.leg_grammar.specs.Def.Rule.{rules_at, rules_of}
+use Rattle.leg_grammar.specs.Def.SkippedForms.{past_def_section, past_def_form}
 use Rattle.leg_grammar.specs.Def.Form.{header_form, def_form_at}
 use Rattle.leg_design_records.specs.WellFormedNets.{AreInOneNet}
-use Rattle.leg_design.proofs.Either.{gives_either}
 use Rattle.leg_design_common.proofs.Gives.{Gives, gives_none, gives_some, gives_bind, gives_skip, gives_if, unless_gives}
+use Rattle.leg_design_common.proofs.Either.{gives_either}
+use Rattle.leg_design_floorplan.proofs.ReadTurnedVias.{turned_vias_behind}
 use Rattle.leg_design_nets.proofs.ReadNets.{IsKnownNet, AreEntries, nets_give}
 use Rattle.leg_design_nets.proofs.ReadLonePins.{HasEntries}
-use Rattle.leg_design_nets.proofs.LaterScopes.{Grows, nets_grow, vias_grow, components_grow, pins_grow}
+use Rattle.leg_design_nets.proofs.LaterScopes.{Grows, nets_grow, vias_grow, components_grow, pins_grow, rules_grow, more_vias_grow}
 
 abbrev pub lists_of : List NetModel → List NetModel → NetLists
 lists_of nets special = record { nets = nets; special = special }
@@ -42,7 +44,7 @@ pub record HasNetsSoFar (before : NetScopeModel) (vias components pins : Bool) (
 
 abbrev pub HasNetParts : DesignParts → Type 0
 HasNetParts parts =
-    HasNetsSoFar (net_scope parts.profile parts.design) parts.has.vias parts.has.components parts.has.pins parts.design.nets parts.design.special
+    HasNetsSoFar (parts_scope parts) parts.has.vias parts.has.components parts.has.pins parts.design.nets parts.design.special
 
 entries_grow : (before next : NetScopeModel) (lists : NetLists) → Grows before next → HasEntries before lists → HasEntries next lists
 entries_grow before next lists grows entries = record {
@@ -128,17 +130,30 @@ module _ (parts : DesignParts) (words : Words) (sound : HasNetParts parts) where
   unfolding track_form
   track_keeps = gives_skip (track_at parts.profile parts.design.library words) (λ track. gives_some _ sound)
 
+  rules_keep : (profile : Profile) → Keeps (rules_form profile parts words)
+  unfolding rules_form
+  rules_keep Narrow = gives_skip (past_def_section words) (λ section. gives_some _ sound)
+  rules_keep (Wide masks soft) =
+      gives_skip (past_def_section words) (λ section.
+      let grows = rules_grow (parts_scope parts) (rules_of (rules_at parts.design.library words)) in
+      gives_some _ (record {
+        no_vias = sound.no_vias;
+        no_components = sound.no_components;
+        no_pins = sound.no_pins;
+        entries = entries_grow (parts_scope parts) _ (lists_of parts.design.nets parts.design.special) grows sound.entries;
+      }))
+
   vias_keep : Keeps (vias_form parts words)
   unfolding vias_form
   vias_keep =
       gives_bind (unless_gives parts.has.vias) (λ once new.
       gives_skip (vias_at parts.profile parts.design.library words) (λ vias.
-      let grows = vias_grow (net_scope parts.profile parts.design) vias.0 (sound.no_vias new) in
+      let grows = vias_grow (parts_scope parts) vias.0 (sound.no_vias new) in
       gives_some _ (record {
         no_vias = never;
         no_components = sound.no_components;
         no_pins = sound.no_pins;
-        entries = entries_grow (net_scope parts.profile parts.design) _ (lists_of parts.design.nets parts.design.special) grows sound.entries;
+        entries = entries_grow (parts_scope parts) _ (lists_of parts.design.nets parts.design.special) grows sound.entries;
       })))
 
   components_keep : Keeps (components_form parts words)
@@ -146,25 +161,25 @@ module _ (parts : DesignParts) (words : Words) (sound : HasNetParts parts) where
   components_keep =
       gives_bind (unless_gives parts.has.components) (λ once new.
       gives_skip (components_at parts.design.library words) (λ components.
-      let grows = components_grow (net_scope parts.profile parts.design) components.0 (sound.no_components new) in
+      let grows = components_grow (parts_scope parts) components.0 (sound.no_components new) in
       gives_some _ (record {
         no_vias = sound.no_vias;
         no_components = never;
         no_pins = sound.no_pins;
-        entries = entries_grow (net_scope parts.profile parts.design) _ (lists_of parts.design.nets parts.design.special) grows sound.entries;
+        entries = entries_grow (parts_scope parts) _ (lists_of parts.design.nets parts.design.special) grows sound.entries;
       })))
 
   pins_keep : Keeps (pins_form parts words)
   unfolding pins_form
   pins_keep =
       gives_bind (unless_gives parts.has.pins) (λ once new.
-      gives_skip (pins_at (net_scope parts.profile parts.design) words) (λ pins.
-      let grows = pins_grow (net_scope parts.profile parts.design) pins.0 (sound.no_pins new) in
+      gives_skip (pins_at (parts_scope parts) words) (λ pins.
+      let grows = pins_grow (parts_scope parts) pins.0 (sound.no_pins new) in
       gives_some _ (record {
         no_vias = sound.no_vias;
         no_components = sound.no_components;
         no_pins = never;
-        entries = entries_grow (net_scope parts.profile parts.design) _ (lists_of parts.design.nets parts.design.special) grows sound.entries;
+        entries = entries_grow (parts_scope parts) _ (lists_of parts.design.nets parts.design.special) grows sound.entries;
       })))
 
   blockages_keep : Keeps (blockages_form parts words)
@@ -172,21 +187,34 @@ module _ (parts : DesignParts) (words : Words) (sound : HasNetParts parts) where
   blockages_keep =
       gives_skip (unless parts.has.blockages) (λ once. gives_skip (blockages_at parts.profile parts.design.library words) (λ blockages. gives_some _ sound))
 
-  nets_keep : Keeps (nets_form parts words)
-  unfolding nets_form
-  nets_keep =
-      let entries = sound.entries in
+  -- with the vias that words turn this still holds
+  turned_keeps : (profile : Profile) → Gives HasNetParts (turned_parts profile parts words)
+  unfolding turned_parts with_turned_vias
+  turned_keeps Narrow = gives_none
+  turned_keeps (Wide masks soft) =
+      gives_bind (turned_vias_behind parts.design.library (record { vias = parts.design.vias; turned = parts.turned }) words) (λ made more.
+      let grows = more_vias_grow (parts_scope parts) made.0.vias more.others made.0.turned more.behind in
+      gives_some _ (record {
+        no_vias = never;
+        no_components = sound.no_components;
+        no_pins = sound.no_pins;
+        entries = entries_grow (parts_scope parts) _ (lists_of parts.design.nets parts.design.special) grows sound.entries;
+      }))
+
+  nets_section_keeps : (made : DesignParts) → HasNetParts made → Keeps (nets_section_form made words)
+  unfolding nets_section_form
+  nets_section_keeps made holds =
+      let entries = holds.entries in
       let few = entries.few in
       let few_wires = entries.few_wires in
-      gives_skip (unless parts.has.nets) (λ once.
-      gives_bind (nets_give (net_scope parts.profile parts.design) false parts.design.special
-      (begins (net_scope parts.profile parts.design) false parts.design.special (only_others parts.design.nets parts.design.special entries.one_net)
+      gives_bind (nets_give (parts_scope made) false made.design.special
+      (begins (parts_scope made) false made.design.special (only_others made.design.nets made.design.special entries.one_net)
       (omega arith)
       (omega arith)) words) (λ nets are.
       gives_some _ (record {
-        no_vias = sound.no_vias;
-        no_components = sound.no_components;
-        no_pins = sound.no_pins;
+        no_vias = holds.no_vias;
+        no_components = holds.no_components;
+        no_pins = holds.no_pins;
         entries = record {
           nets = are.each;
           nets_apart = are.apart;
@@ -196,34 +224,45 @@ module _ (parts : DesignParts) (words : Words) (sound : HasNetParts parts) where
           few = are.few;
           few_wires = are.few_wires;
         };
-      })))
+      }))
 
-  special_keep : Keeps (special_form parts words)
-  unfolding special_form
-  special_keep =
-      let entries = sound.entries in
+  nets_keep : Keeps (nets_form parts words)
+  unfolding nets_form
+  nets_keep =
+      gives_skip (unless parts.has.nets) (λ once.
+      gives_either _ _ (nets_section_keeps parts sound) (gives_bind (turned_keeps parts.profile) nets_section_keeps))
+
+  special_section_keeps : (made : DesignParts) → HasNetParts made → Keeps (special_section_form made words)
+  unfolding special_section_form
+  special_section_keeps made holds =
+      let entries = holds.entries in
       let few = entries.few in
       let few_wires = entries.few_wires in
-      gives_skip (unless parts.has.special) (λ once.
-      gives_bind (nets_give (net_scope parts.profile parts.design) true parts.design.nets
-      (begins (net_scope parts.profile parts.design) true parts.design.nets (only_others parts.design.special parts.design.nets
-      (other_order parts.design.nets parts.design.special entries.one_net)) (omega arith) (omega arith)) words) (λ special are.
+      gives_bind (nets_give (parts_scope made) true made.design.nets
+      (begins (parts_scope made) true made.design.nets (only_others made.design.special made.design.nets
+      (other_order made.design.nets made.design.special entries.one_net)) (omega arith) (omega arith)) words) (λ special are.
       let few_too = are.few in
       let few_wires_too = are.few_wires in
       gives_some _ (record {
-        no_vias = sound.no_vias;
-        no_components = sound.no_components;
-        no_pins = sound.no_pins;
+        no_vias = holds.no_vias;
+        no_components = holds.no_components;
+        no_pins = holds.no_pins;
         entries = record {
           nets = entries.nets;
           nets_apart = entries.nets_apart;
           special = are.each;
           special_apart = are.apart;
-          one_net = other_order special.0 parts.design.nets are.one_net;
+          one_net = other_order special.0 made.design.nets are.one_net;
           few = omega arith;
           few_wires = omega arith;
         };
-      })))
+      }))
+
+  special_keep : Keeps (special_form parts words)
+  unfolding special_form
+  special_keep =
+      gives_skip (unless parts.has.special) (λ once.
+      gives_either _ _ (special_section_keeps parts sound) (gives_bind (turned_keeps parts.profile) special_section_keeps))
 
   header_keeps : Keeps (header_form parts words)
   unfolding header_form
@@ -235,7 +274,8 @@ module _ (parts : DesignParts) (words : Words) (sound : HasNetParts parts) where
       (gives_if (is_at (codes "DIEAREA") words) die_keeps
       (gives_if (is_at (codes "ROW") words) row_keeps
       (gives_if (is_at (codes "TRACKS") words) track_keeps
-      (gives_skip (past_def_form parts.profile words) (λ form. gives_some _ sound))))))))
+      (gives_if (is_at (codes "NONDEFAULTRULES") words) (rules_keep parts.profile)
+      (gives_skip (past_def_form parts.profile words) (λ form. gives_some _ sound)))))))))
 
   pub net_form_keeps : Keeps (def_form_at parts words)
   unfolding def_form_at

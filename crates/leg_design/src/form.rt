@@ -39,6 +39,8 @@ fn header_form<'a, A: Allocator + Copy>(
         parts.row_form(alloc, words)
     } else if words.is_at(b"TRACKS") {
         parts.track_form(alloc, words)
+    } else if words.is_at(b"NONDEFAULTRULES") {
+        parts.rules_form(alloc, words)
     } else {
         past_form(parts.profile(), words)
     }

@@ -8,11 +8,14 @@ ghost use Rattle.leg_design_records.specs.Records.{net_names, terminal_count};
 ghost use Rattle.leg_grammar.specs.Def.Parts.{no_parts, divider_form, bus_form, name_form, units_form, die_form, track_form};
 ghost use Rattle.leg_grammar.specs.Def.Form.{with_all_nets, design_of};
 
+mod nets;
 mod rows;
+mod rules;
 mod sections;
 
 use crate::dropped_rows::DroppedRows;
 use crate::header::{design_name, units, word_after};
+use leg_design_common::TurnTable;
 use leg_design_floorplan::die::die;
 use leg_design_floorplan::track::track;
 use leg_design_nets::{NetTable, add_lone_pins};
@@ -20,7 +23,7 @@ use leg_design_records::{Blockage, Component, DesignFields, PART_LIMIT, Pin, Row
 use leg_geom::Rect;
 use leg_grammar::Profile;
 use leg_lex::{Cursor, Entry, FaultKind, Keyword, Name, NamedList, Names, Need, ReadFault};
-use leg_lib_records::{Library, Via};
+use leg_lib_records::{Library, Rule, Via};
 use std::alloc::{AllocError, Allocator};
 use std::marker::Model;
 
@@ -36,8 +39,8 @@ struct Appearances {
     special: bool,
 }
 
-/// What the forms before gave. Contracts see it as a design, which forms have appeared, the profile in which they are read, and the
-/// sites of rows that were dropped.
+/// What the forms before gave. Contracts see it as a design, which forms have appeared, the profile in which they are read, the
+/// sites of rows that were dropped, the nondefault rules, and which vias are turned.
 #[derive(Drop)]
 pub(crate) struct Parts<'a, A: Allocator + Copy> {
     profile: Profile,
@@ -56,6 +59,8 @@ pub(crate) struct Parts<'a, A: Allocator + Copy> {
     nets: NetTable<'a, A>,
     special: NetTable<'a, A>,
     dropped: DroppedRows<A>,
+    rules: NamedList<'a, Rule<'a, A>, A>,
+    turned: TurnTable<A>,
 }
 
 impl<'a, A: Allocator + Copy> Model for Parts<'a, A> {
@@ -94,6 +99,8 @@ impl<'a, A: Allocator + Copy> Model for Parts<'a, A> {
         special = p.special;
       };
       dropped = p.dropped;
+      rules = p.rules;
+      turned = p.turned;
     } };
 }
 
@@ -127,6 +134,8 @@ impl<'a, A: Allocator + Copy> Parts<'a, A> {
             nets: NetTable::new(alloc),
             special: NetTable::new(alloc),
             dropped: DroppedRows::new(alloc),
+            rules: NamedList::new(alloc),
+            turned: TurnTable::new(alloc),
         }
     }
 

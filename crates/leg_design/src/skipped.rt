@@ -24,7 +24,6 @@ fn is_past_section(words: &Cursor<'_, '_>) -> bool
     ensures { result ≡ is_past_section words.now }
 {
     words.is_at(b"PROPERTYDEFINITIONS")
-        || words.is_at(b"NONDEFAULTRULES")
         || words.is_at(b"REGIONS")
         || words.is_at(b"FILLS")
         || words.is_at(b"SLOTS")
@@ -36,7 +35,7 @@ fn is_past_section(words: &Cursor<'_, '_>) -> bool
 
 /// A keyword, and everything up to `END` and the keyword.
 #[tactic(auto, using(crate::proofs::Skips::past_section_from, crate::proofs::Skips::past_section_of_none))]
-fn past_section(words: &mut Cursor<'_, '_>) -> Result<(), ReadFault>
+pub(crate) fn past_section(words: &mut Cursor<'_, '_>) -> Result<(), ReadFault>
     ensures { Reads (λ x. x) result words.new (past_def_section words.old) }
 {
     let keyword = words.any()?;

@@ -1,1 +1,3 @@
 pub use Rattle.leg_design_records.specs.Records
+-- What a table of turned vias holds.
+pub mod Steps

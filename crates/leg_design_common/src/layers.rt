@@ -4,7 +4,7 @@
 ghost use Rattle.std.specs.Prelude.{◌≡◌, OnOk, ◌≢◌, IfErr};
 ghost use Rattle.leg_lex.specs.declared.read_fault.FaultKind.TheVariants.{Memory};
 ghost use Rattle.leg_lex.specs.Words.{Reads};
-ghost use Rattle.leg_grammar.specs.Def.Layers.{layer_named_at, with_rect};
+ghost use Rattle.leg_grammar.specs.Def.Layers.{layer_named_at, with_rect, with_rects};
 ghost use Rattle.leg_design_records.specs.Layers.{width_of_layer, is_routing, has_metal};
 
 use leg_design_records::wire_width;
@@ -65,6 +65,22 @@ pub fn push_rect<A: Allocator + Copy>(
 {
     if has_metal(library, layer) {
         shapes.push(Shape { layer, rect })?;
+    }
+    Ok(())
+}
+
+/// Adds rectangles on one layer, one after the other; on a layer without metal they are dropped.
+#[tactic(auto, using(crate::proofs::MetalRects::one_rect_more, crate::proofs::MetalRects::all_rects))]
+pub fn push_rects<A: Allocator + Copy>(
+    library: &Library<'_, A>,
+    layer: usize,
+    rects: &[Rect],
+    shapes: &mut ShapeList<A>,
+) -> Result<(), AllocError>
+    ensures { OnOk result (shapes.new ≡ with_rects library.now layer rects.now shapes.old) }
+{
+    for rect in rects {
+        push_rect(library, layer, *rect, shapes)?;
     }
     Ok(())
 }

@@ -1,6 +1,6 @@
 //! Points, rectangles, orientations and places as DEF writes them (LEF/DEF 5.8, "Components", "Pins").
 
-ghost use Rattle.std.specs.Prelude.{◌≡◌, ◌≢◌, IfErr};
+ghost use Rattle.std.specs.Prelude.{◌≡◌, ◌≢◌, IfErr, MatchOption, None, Some};
 ghost use Rattle.leg_lex.specs.declared.read_fault.FaultKind.TheVariants.{Memory};
 ghost use Rattle.leg_lex.specs.Words.{Reads, Means};
 ghost use Rattle.leg_lib_records.specs.Measure.{rect_between};
@@ -89,6 +89,17 @@ pub fn orient(words: &mut Cursor<'_, '_>) -> Result<Orient, ReadFault>
         Some(orient) => Ok(orient),
         None => Err(first.need(FaultKind::Unexpected, Need::Orient)),
     }
+}
+
+/// The orientation that comes next, if one does. It is read past.
+#[tactic(auto, unfolding(leg_grammar::specs::Def::Placement::orient_at))]
+pub fn next_orient(words: &mut Cursor<'_, '_>) -> Option<Orient>
+    ensures { MatchOption result (orient_at words.old ≡ None) (λ orient. orient_at words.old ≡ Some (orient, words.new)) }
+{
+    let Ok(word) = words.any() else {
+        return None;
+    };
+    orient_of(word)
 }
 
 /// A place: `( x y )` and an orientation.

@@ -17,10 +17,11 @@ use Rattle.leg_grammar.specs.Def.Guard.{when}
 use Rattle.leg_grammar.specs.Def.Layers.{layer_named_at}
 use Rattle.leg_grammar.specs.Def.Placement.{rect_at}
 use Rattle.leg_design_common.proofs.Sections.{section_below}
-use Rattle.leg_grammar.specs.Def.Blockage.{blocked_layer_at, at_no_plus, one_rect, at_semicolon, rects_at, blockage_at, is_kept, is_room_for, blockage_entry, blockages_at}
+use Rattle.leg_grammar.specs.Def.Blockage.{blocked_layer_at, at_no_plus, one_rect, one_polygon, at_polygon, one_area, at_semicolon, rects_at, blockage_at, is_kept, is_room_for, blockage_entry, blockages_at}
 use Rattle.leg_grammar.specs.declared.profile.Profile.{Profile}
 use Rattle.leg_grammar.specs.Def.BlockageClause.{blockage_clause}
-use Rattle.leg_design_floorplan.proofs.Spots.{spot_below}
+use Rattle.leg_design_common.proofs.Spots.{spot_below}
+use Rattle.leg_design_common.proofs.Polygons.{polygon_below}
 use Rattle.leg_design_floorplan.proofs.BlockageClauses.{clause_shortens}
 
 -- POLYGON isn't RECT.
@@ -40,20 +41,31 @@ rect_below words =
     below_bind (omega arith) (spot_below p.1) (λ q fewer.
     below_ask (rect_between p.0 q.0) (λ rect. below_some rect q.1 fewer)))
 
-pub one_rect_shortens : Shortens one_rect
+one_rect_shortens : Shortens one_rect
 unfolding one_rect
 one_rect_shortens rects words =
     below_bind (omega arith) (keyword_below (codes "RECT") words) (λ start less.
     below_bind (omega arith) (rect_below start.1) (λ rect fewer. below_some (rects ++ rect.0 ∷ []) rect.1 fewer))
 
-pub one_rect_shorter : (rects more : List RectModel) (words rest : Words) → one_rect rects words ≡ Some (more, rest) → length rest < length words
-one_rect_shorter rects more words rest said = (one_rect_shortens rects words).left more rest said
+one_polygon_shortens : Shortens one_polygon
+unfolding one_polygon
+one_polygon_shortens rects words =
+    below_bind (omega arith) (keyword_below (codes "POLYGON") words) (λ start less.
+    below_bind (omega arith) (polygon_below start.1) (λ slabs fewer. below_some (rects ++ slabs.0) slabs.1 fewer))
 
-rects_below : (words : Words) → Below (length words) (rects_at words)
+pub one_area_shortens : (profile : Profile) → Shortens (one_area profile)
+unfolding one_area
+one_area_shortens profile rects words = below_if (at_polygon profile words) (one_polygon_shortens rects words) (one_rect_shortens rects words)
+
+pub one_area_shorter : (profile : Profile) (rects more : List RectModel) (words rest : Words) → one_area profile rects words ≡ Some (more, rest)
+    → length rest < length words
+one_area_shorter profile rects more words rest said = (one_area_shortens profile rects words).left more rest said
+
+rects_below : (profile : Profile) (words : Words) → Below (length words) (rects_at profile words)
 unfolding rects_at
-rects_below words =
-    below_bind (omega arith) (one_rect_shortens [] words) (λ first less.
-    below_bind (omega arith) (until_below at_semicolon one_rect one_rect_shortens first.0 first.1) (λ rects no_more.
+rects_below profile words =
+    below_bind (omega arith) (one_area_shortens profile [] words) (λ first less.
+    below_bind (omega arith) (until_below at_semicolon (one_area profile) (one_area_shortens profile) first.0 first.1) (λ rects no_more.
     below_bind (omega arith) (mark_below 59 rects.1) (λ end last. below_some rects.0 end.1 last)))
 
 layer_below : (library : LibraryModel) (words : Words) → Below (length words) (layer_named_at library words)
@@ -76,7 +88,7 @@ blockage_below profile library words =
     below_bind (omega arith) (mark_below 45 words) (λ dash less.
     below_bind (omega arith) (blocked_layer_below library dash.1) (λ layer fewer.
     below_bind (omega arith) (until_below at_no_plus (blockage_clause profile layer.0) (clause_shortens profile layer.0) true layer.1) (λ kept no_more.
-    below_bind (omega arith) (rects_below kept.1) (λ rects last.
+    below_bind (omega arith) (rects_below profile kept.1) (λ rects last.
     below_some (record { layer = layer.0; rects = rects.0 }, kept.0) rects.1 last))))
 
 pub entry_shortens : (profile : Profile) (library : LibraryModel) → Shortens (blockage_entry profile library)

@@ -5,7 +5,7 @@ use Rattle.leg_lex.proofs.Shorter.{keyword_below, mark_below}
 use Rattle.leg_lex.proofs.Until.{Below, Shortens, below_some, below_bind, below_ask, until_below}
 use Rattle.leg_geom.specs.Plane.{PointModel}
 use Rattle.leg_grammar.specs.Def.Die.{at_no_spot, one_spot, die_of, die_at}
-use Rattle.leg_design_floorplan.proofs.Spots.{spot_below}
+use Rattle.leg_design_common.proofs.Spots.{spot_below}
 
 pub one_spot_shortens : Shortens one_spot
 unfolding one_spot

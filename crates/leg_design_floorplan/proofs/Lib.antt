@@ -4,6 +4,10 @@ pub mod Rows
 pub mod DroppedRows
 pub mod Tracks
 pub mod Vias
+mod Rules
+mod TurnedShapes
+mod NewNames
+mod TurnedVias
 pub mod Components
 mod PortVias
 pub mod Pins
@@ -14,20 +18,15 @@ pub mod ReadDie
 pub mod ReadRows
 pub mod ReadTracks
 pub mod ReadVias
+pub mod ReadTurnedVias
 pub mod ReadComponents
 pub mod ReadPins
 pub mod ReadBlockages
 -- Generated vias.
-mod EachNumber
-mod CutPatterns
-mod Areas
-mod ArraySides
-mod DrawnClauses
 mod MetalShapes
 mod ShapeCounts
 mod ReadGeneratedVias
 -- Points and masks.
-mod Spots
 mod Masks
 -- Of the clauses, the one that is sought.
 mod OneOfKind

@@ -38,7 +38,7 @@ rect_gives_from at rect =
     gives_bind (corner_gives at rect.x2 rect.y2) (λ upper_right high.
     between_gives lower_left upper_right low high))
 
-shape_gives : (library : LibraryModel) (at : PointModel) (shapes : List Shape) (shape : Shape) → All (IsMetalShape library) shapes
+pub shape_gives : (library : LibraryModel) (at : PointModel) (shapes : List Shape) (shape : Shape) → All (IsMetalShape library) shapes
     → Gives (All (IsMetalShape library)) (via_shape library at shapes shape)
 unfolding via_shape
 shape_gives library at shapes shape metal =

@@ -1,9 +1,9 @@
 -- Blockages that are read are on layers with metal, have rectangles with area, and aren't too many.
-use Rattle.std.proofs.Common.{◌≡◌, ℕ, ◌≤◌, ◌+◌, true, ◌&&◌, nat_lt, nat_le, List, [], ◌∷◌, ◌++◌, length, All, Option, None, Some, codes, arith}
+use Rattle.std.proofs.Common.{◌≡◌, ℕ, ◌≤◌, ◌+◌, true, ◌&&◌, nat_lt, nat_le, List, [], ◌∷◌, ◌++◌, length, All, Option, None, Some, codes, arith, length-append}
 use Rattle.std.proofs.lemmas.Bool.{and_parts}
 use Rattle.std.proofs.lemmas.Bool.Decides.{nat_tests}
 use Rattle.std.proofs.lemmas.List.{length_push}
-use Rattle.std.proofs.lemmas.List.Elements.{All-push, All-nil}
+use Rattle.std.proofs.lemmas.List.Elements.{All-push, All-nil, All-append}
 use Rattle.leg_lex.specs.Words.{Words, keyword_at, mark_at}
 use Rattle.leg_lex.specs.Until.{until}
 use Rattle.leg_lex.proofs.GivesAll.{until_gives}
@@ -12,42 +12,55 @@ use Rattle.leg_lib_records.specs.Records.{LibraryModel}
 use Rattle.leg_design_records.specs.declared.limits.TheConstants.{ENTRY_LIMIT, PART_LIMIT}
 use Rattle.leg_design_records.specs.Records.{BlockageModel, rect_count}
 use Rattle.leg_design_records.specs.WellFormedParts.{IsArea, IsLayerOfBlockage, IsBlockage, AreBlockages}
-use Rattle.leg_design_common.proofs.Gives.{Gives, gives_some, gives_bind, gives_skip, gives_choice, when_gives, section_gives}
+use Rattle.leg_design_common.proofs.Gives.{Gives, gives_some, gives_bind, gives_skip, gives_choice, gives_if, when_gives, section_gives}
 use Rattle.leg_design_common.proofs.ReadPlacement.{rect_gives}
+use Rattle.leg_design_common.proofs.ReadPolygons.{AreAreas, polygon_gives}
 use Rattle.leg_grammar.specs.declared.profile.Profile.{Profile}
 use Rattle.leg_grammar.specs.Def.BlockageClause.{blockage_clause}
-use Rattle.leg_grammar.specs.Def.Blockage.{blocked_layer_at, at_no_plus, one_rect, at_semicolon, rects_at, blockage_at, is_kept, is_room_for, blockage_entry, blockages_at}
+use Rattle.leg_grammar.specs.Def.Blockage.{blocked_layer_at, at_no_plus, one_rect, one_polygon, at_polygon, one_area, at_semicolon, rects_at, blockage_at, is_kept, is_room_for, blockage_entry, blockages_at}
 use Rattle.leg_design_floorplan.proofs.Blockages.{rect_count_push}
-
--- one rectangle at least, and each has area
-abbrev AreRects : List RectModel → Type 0
-AreRects rects = All IsArea rects × (1 ≤ length rects)
 
 one_more : (rects : List RectModel) (rect : RectModel) → 1 ≤ length (rects ++ rect ∷ [])
 one_more rects rect = rw (length_push rects rect) (omega arith)
 
-one_rect_gives : (rects : List RectModel) (words : Words) → All IsArea rects → Gives (λ said. AreRects said.0) (one_rect rects words)
+one_rect_gives : (rects : List RectModel) (words : Words) → All IsArea rects → Gives (λ said. AreAreas said.0) (one_rect rects words)
 unfolding one_rect
 one_rect_gives rects words each =
     gives_skip (keyword_at (codes "RECT") words) (λ start.
     gives_bind (rect_gives start.1) (λ rect area.
     gives_some _ (All-push IsArea rects rect.0 each area, one_more rects rect.0)))
 
-rects_give : (words : Words) → Gives (λ said. AreRects said.0) (rects_at words)
+more_of_them : (rects slabs : List RectModel) → 1 ≤ length slabs → 1 ≤ length (rects ++ slabs)
+more_of_them rects slabs some = rw (length-append rects slabs) (omega arith)
+
+one_polygon_gives : (rects : List RectModel) (words : Words) → All IsArea rects → Gives (λ said. AreAreas said.0) (one_polygon rects words)
+unfolding one_polygon
+one_polygon_gives rects words each =
+    gives_skip (keyword_at (codes "POLYGON") words) (λ start.
+    gives_bind (polygon_gives start.1) (λ slabs are.
+    gives_some _ (All-append IsArea rects slabs.0 each are.0, more_of_them rects slabs.0 are.1)))
+
+one_area_gives : (profile : Profile) (rects : List RectModel) (words : Words) → All IsArea rects
+    → Gives (λ said. AreAreas said.0) (one_area profile rects words)
+unfolding one_area
+one_area_gives profile rects words each = gives_if (at_polygon profile words) (one_polygon_gives rects words each) (one_rect_gives rects words each)
+
+rects_give : (profile : Profile) (words : Words) → Gives (λ said. AreAreas said.0) (rects_at profile words)
 unfolding rects_at
-rects_give words =
-    gives_bind (one_rect_gives [] words (All-nil IsArea)) (λ first one.
-    gives_bind (until_gives AreRects at_semicolon one_rect (λ rects left some. one_rect_gives rects left some.0) first.0 first.1 one) (λ rects some.
+rects_give profile words =
+    gives_bind (one_area_gives profile [] words (All-nil IsArea)) (λ first one.
+    gives_bind (until_gives AreAreas at_semicolon (one_area profile) (λ rects left some. one_area_gives profile rects left some.0) first.0 first.1 one)
+    (λ rects some.
     gives_skip (mark_at 59 rects.1) (λ end.
     gives_some _ some)))
 
-blockage_gives : (profile : Profile) (library : LibraryModel) (words : Words) → Gives (λ said. AreRects said.0.0.rects) (blockage_at profile library words)
+blockage_gives : (profile : Profile) (library : LibraryModel) (words : Words) → Gives (λ said. AreAreas said.0.0.rects) (blockage_at profile library words)
 unfolding blockage_at
 blockage_gives profile library words =
     gives_skip (mark_at 45 words) (λ dash.
     gives_skip (blocked_layer_at library dash.1) (λ layer.
     gives_skip (until at_no_plus (blockage_clause profile layer.0) true layer.1) (λ kept.
-    gives_bind (rects_give kept.1) (λ rects some.
+    gives_bind (rects_give profile kept.1) (λ rects some.
     gives_some _ some))))
 
 layer_of_kept : (library : LibraryModel) (layer : Option ℕ) → is_kept library layer ≡ true → IsLayerOfBlockage library layer

@@ -15,15 +15,17 @@ use Rattle.leg_design_records.specs.declared.limits.TheConstants.{ENTRY_LIMIT}
 use Rattle.leg_grammar.specs.Def.Guard.{when, unless}
 use Rattle.leg_grammar.specs.Def.Clause.{is_clause}
 use Rattle.leg_grammar.specs.Mask.{past_mask}
+use Rattle.leg_grammar.specs.Profiles.{is_wide}
 use Rattle.leg_grammar.specs.Def.Placement.{says_place}
-use Rattle.leg_grammar.specs.Def.PinClauses.{PinClauses, no_pin_clauses, net_of_pin, word_in, last_port, all_ports, port_start, port_rect, port_via, pin_net_clause, direction_clause, pin_use_clause, port_place, pin_clause}
-use Rattle.leg_grammar.specs.Def.Port.{empty_port, past_rules, layer_rect}
+use Rattle.leg_grammar.specs.Def.PinClauses.{PinClauses, no_pin_clauses, net_of_pin, word_in, last_port, all_ports, port_start, port_rect, port_polygon, port_via, pin_net_clause, direction_clause, pin_use_clause, port_place, pin_clause}
+use Rattle.leg_grammar.specs.Def.Port.{empty_port, past_rules, layer_rect, layer_polygon}
 use Rattle.leg_grammar.specs.Def.Pin.{pin_head, pin_in, pin_entry, pins_at}
 use Rattle.leg_design_records.specs.Records.{PortModel, PinModel, pin_names}
 use Rattle.leg_design_records.specs.WellFormedParts.{IsKept, IsNameIfAny, IsPort, IsPin, ArePins}
 use Rattle.leg_design_common.proofs.Gives.{Gives, gives_none, gives_some, gives_bind, gives_skip, gives_if, unless_gives, name_gives, word_gives, section_gives}
 use Rattle.leg_design_common.proofs.ReadPlacement.{rect_gives, placed_gives}
-use Rattle.leg_design_floorplan.proofs.MetalShapes.{with_rect_metal}
+use Rattle.leg_design_common.proofs.ReadPolygons.{AreAreas, polygon_gives}
+use Rattle.leg_design_floorplan.proofs.MetalShapes.{with_rect_metal, with_rects_metal}
 use Rattle.leg_design_floorplan.proofs.PortVias.{with_via_gives}
 use Rattle.leg_design_records.specs.WellFormedParts.{IsArea, IsMetalShape}
 use Rattle.leg_grammar.specs.Def.Layers.{layer_named_at}
@@ -104,6 +106,31 @@ module _ (scope : NetScopeModel) where
           last = record { shapes = with_rect_metal scope.library on.0 on.1 (last_port parts).shapes area last.shapes; placed = last.placed };
         }))
 
+    layer_polygon_gives : Gives (λ on. AreAreas on.1) (layer_polygon scope.profile scope.library clause)
+    unfolding layer_polygon
+    layer_polygon_gives =
+        gives_skip (when (is_wide scope.profile)) (λ wide.
+        gives_skip (keyword_at (codes "POLYGON") clause) (λ start.
+        gives_skip (layer_named_at scope.library start.1) (λ layer.
+        gives_skip (past_mask scope.profile layer.1) (λ mask.
+        gives_skip (past_rules mask.1) (λ rules.
+        gives_bind (polygon_gives rules.1) (λ slabs areas.
+        gives_skip (nothing_at slabs.1) (λ end.
+        gives_some _ areas)))))))
+
+    port_polygon_gives : Gives ArePinClauses (port_polygon scope parts clause)
+    unfolding port_polygon
+    port_polygon_gives =
+        let last = last_is parts before in
+        gives_bind layer_polygon_gives (λ on areas.
+        gives_some _ (record {
+          net_name = before.net_name;
+          direction = before.direction;
+          usage = before.usage;
+          done = before.done;
+          last = record { shapes = with_rects_metal scope.library on.0 on.1 (last_port parts).shapes areas.0 last.shapes; placed = last.placed };
+        }))
+
     port_via_gives : Gives ArePinClauses (port_via scope parts clause)
     unfolding port_via
     port_via_gives =
@@ -150,8 +177,9 @@ module _ (scope : NetScopeModel) where
         (gives_if (is_at (codes "LAYER") clause) port_rect_gives
         (gives_if (says_place clause) port_place_gives
         (gives_if (is_at (codes "VIA") clause) port_via_gives
+        (gives_if (is_at (codes "POLYGON") clause) port_polygon_gives
         (gives_if _ gives_none
-        (gives_skip (when (is_clause clause)) (λ _. gives_some parts before)))))))))
+        (gives_skip (when (is_clause clause)) (λ _. gives_some parts before))))))))))
 
   pin_head_gives : (names : List (List ℕ)) (head : Words) → Gives (λ name. (is_name name ≡ true) × (place_of name names ≡ None)) (pin_head names head)
   unfolding pin_head

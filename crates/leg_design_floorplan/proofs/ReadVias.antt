@@ -71,7 +71,7 @@ module _ (library : LibraryModel) where
   shapes_give Narrow vias clauses = drawn_give clauses
   shapes_give (Wide masks soft) vias clauses = gives_if (is_generated clauses) (generated_gives library vias clauses) (drawn_give clauses)
 
-  with_via : (vias : List ViaModel) (via : ViaModel) → AreVias library vias → IsDesignVia library via → place_of via.name (design_via_names vias) ≡ None
+  pub with_via : (vias : List ViaModel) (via : ViaModel) → AreVias library vias → IsDesignVia library via → place_of via.name (design_via_names vias) ≡ None
       → AreVias library (vias ++ via ∷ [])
   with_via vias via before holds new = record {
     each = All-push (IsDesignVia library) vias via before.each holds;

@@ -6,11 +6,12 @@ ghost use Rattle.leg_lex.specs.Until.{until};
 ghost use Rattle.leg_lex.specs.Statements.{at_end};
 ghost use Rattle.leg_design_records.specs.Records.{blockage_said};
 ghost use Rattle.leg_grammar.specs.Def.BlockageClause.{blockage_clause};
-ghost use Rattle.leg_grammar.specs.Def.Blockage.{blocked_layer_at, at_no_plus, one_rect, at_semicolon, rects_at, blockage_at, is_kept, is_room_for, blockage_entry, blockages_at};
+ghost use Rattle.leg_grammar.specs.Def.Blockage.{blocked_layer_at, at_no_plus, one_rect, one_polygon, one_area, at_semicolon, rects_at, blockage_at, is_kept, is_room_for, blockage_entry, blockages_at};
 
 use crate::blockage_clause::blockage_clause;
 use leg_design_common::layers::{has_metal, layer};
 use leg_design_common::placement::rect;
+use leg_design_common::polygon::polygon;
 use leg_design_common::section_start;
 use leg_design_records::{Blockage, ENTRY_LIMIT, PART_LIMIT};
 use leg_geom::Rect;
@@ -155,31 +156,67 @@ fn one_rect<A: Allocator + Copy>(
     Ok(())
 }
 
-/// Adds the rectangles that are left, up to the `;` after them.
-#[tactic(auto, using(leg_lex::proofs::Until::ends, leg_lex::proofs::Until::goes_on, leg_lex::proofs::Until::fails, crate::proofs::Blockages::one_rect_shortens, crate::proofs::Blockages::one_rect_shorter))]
-fn more_rects<A: Allocator + Copy>(
+/// Adds the slabs of the polygon that comes next.
+#[tactic(auto, unfolding(leg_grammar::specs::Def::Blockage::one_polygon))]
+fn one_polygon<A: Allocator + Copy>(
+    alloc: A,
     rects: &mut Vec<Rect, A>,
     words: &mut Cursor<'_, '_>,
 ) -> Result<(), ReadFault>
-    ensures { Reads (λ _. rects.new.items) result words.new (until at_semicolon one_rect rects.old.items words.old) }
+    ensures { Reads (λ _. rects.new.items) result words.new (one_polygon rects.old.items words.old) }
 {
-    'rects: while !words.is_at(b";") {
-        one_rect(rects, words)?;
+    let first = words.again();
+    words.keyword(b"POLYGON")?;
+    let slabs = polygon(alloc, &first, words)?;
+    rects.extend_from_slice(&slabs)?;
+    Ok(())
+}
+
+/// Adds the rectangle, or in the wide profile the slabs of the polygon, that comes next.
+#[tactic(auto, unfolding(leg_grammar::specs::Def::Blockage::one_area))]
+fn one_area<A: Allocator + Copy>(
+    alloc: A,
+    profile: Profile,
+    rects: &mut Vec<Rect, A>,
+    words: &mut Cursor<'_, '_>,
+) -> Result<(), ReadFault>
+    ensures { Reads (λ _. rects.new.items) result words.new (one_area profile rects.old.items words.old) }
+{
+    if profile.is_wide() && words.is_at(b"POLYGON") {
+        one_polygon(alloc, rects, words)
+    } else {
+        one_rect(rects, words)
+    }
+}
+
+/// Adds the rectangles and polygons that are left, up to the `;` after them.
+#[tactic(auto, using(leg_lex::proofs::Until::ends, leg_lex::proofs::Until::goes_on, leg_lex::proofs::Until::fails, crate::proofs::Blockages::one_area_shortens, crate::proofs::Blockages::one_area_shorter))]
+fn more_areas<A: Allocator + Copy>(
+    alloc: A,
+    profile: Profile,
+    rects: &mut Vec<Rect, A>,
+    words: &mut Cursor<'_, '_>,
+) -> Result<(), ReadFault>
+    ensures { Reads (λ _. rects.new.items) result words.new (until at_semicolon (one_area profile) rects.old.items words.old) }
+{
+    'areas: while !words.is_at(b";") {
+        one_area(alloc, profile, rects, words)?;
     }
     Ok(())
 }
 
-/// One rectangle at least, and the `;` after the last.
+/// One rectangle or polygon at least, and the `;` after the last.
 #[tactic(auto, unfolding(leg_grammar::specs::Def::Blockage::rects_at))]
 fn rects<A: Allocator + Copy>(
     alloc: A,
+    profile: Profile,
     words: &mut Cursor<'_, '_>,
 ) -> Result<Vec<Rect, A>, ReadFault>
-    ensures { Reads (λ v. v.items) result words.new (rects_at words.old) }
+    ensures { Reads (λ v. v.items) result words.new (rects_at profile words.old) }
 {
     let mut rects = Vec::new(alloc);
-    one_rect(&mut rects, words)?;
-    more_rects(&mut rects, words)?;
+    one_area(alloc, profile, &mut rects, words)?;
+    more_areas(alloc, profile, &mut rects, words)?;
     words.mark(b';')?;
     Ok(rects)
 }
@@ -197,7 +234,7 @@ fn blockage<A: Allocator + Copy>(
     words.mark(b'-')?;
     let layer = blocked_layer(library, words)?;
     let kept = clauses(profile, layer, words)?;
-    let rects = Items::from_vec(rects(alloc, words)?);
+    let rects = Items::from_vec(rects(alloc, profile, words)?);
     match layer {
         Some(layer) => Ok((Blockage::LayerRects { layer, rects }, kept)),
         None => Ok((Blockage::Placement { rects }, kept)),

@@ -3,13 +3,14 @@
 ghost use Rattle.std.specs.Prelude.{◌≡◌, None, OnOk, IfOk};
 ghost use Rattle.leg_lex.specs.Words.{Means};
 ghost use Rattle.leg_lex.specs.Until.{over};
-ghost use Rattle.leg_grammar.specs.Def.PinClauses.{no_pin_clauses, net_of_pin, word_in, last_port, all_ports, port_start, port_rect, port_via, port_place, pin_net_clause, direction_clause, pin_use_clause, pin_clause};
+ghost use Rattle.leg_grammar.specs.Def.PinClauses.{no_pin_clauses, net_of_pin, word_in, last_port, all_ports, port_start, port_rect, port_polygon, port_via, port_place, pin_net_clause, direction_clause, pin_use_clause, pin_clause};
 
 use crate::port::{empty_port, layer_rect};
+use crate::port_polygon::layer_polygon;
 use crate::port_via::push_via;
 use leg_design_common::NetScope;
 use leg_design_common::clause::clause;
-use leg_design_common::layers::push_rect;
+use leg_design_common::layers::{push_rect, push_rects};
 use leg_design_common::placement::{placed, says_place};
 use leg_design_records::Port;
 use leg_lex::{Cursor, FaultKind, Name, Need, ReadFault};
@@ -157,6 +158,23 @@ impl<'a, A: Allocator + Copy> PinParts<'a, A> {
         Ok(())
     }
 
+    /// `POLYGON`, which adds the slabs of a polygon to the last port.
+    #[tactic(auto, unfolding(leg_grammar::specs::Def::PinClauses::port_polygon))]
+    fn port_polygon(
+        &mut self,
+        alloc: A,
+        scope: &NetScope<'_, '_, A>,
+        clause: &mut Cursor<'_, 'a>,
+    ) -> Result<(), ReadFault>
+        ensures { Means (λ _. self.new) result (port_polygon scope.now self.old clause.old) }
+    {
+        let (layer, slabs) = layer_polygon(alloc, scope.profile, scope.library, clause)?;
+        let mut port = self.take_last(alloc)?;
+        push_rects(scope.library, layer, &slabs, &mut port.shapes)?;
+        self.last = Some(port);
+        Ok(())
+    }
+
     /// `VIA`, which adds the rectangles of a via to the last port.
     #[tactic(auto, unfolding(leg_grammar::specs::Def::PinClauses::port_via))]
     fn port_via(
@@ -213,7 +231,9 @@ impl<'a, A: Allocator + Copy> PinParts<'a, A> {
             self.port_place(alloc, part)
         } else if part.is_at(b"VIA") {
             self.port_via(alloc, scope, part)
-        } else if part.is_at(b"POLYGON") || part.is_at(b"MASK") {
+        } else if part.is_at(b"POLYGON") {
+            self.port_polygon(alloc, scope, part)
+        } else if part.is_at(b"MASK") {
             Err(part.fault(FaultKind::Unsupported))
         } else {
             clause(part)

@@ -40,7 +40,7 @@ fn past_number(keyword: &[u8], clause: &mut Cursor<'_, '_>) -> Result<(), ReadFa
 
 /// Reads past the spacing and the width that a rectangle is taken for.
 #[tactic(auto, unfolding(leg_grammar::specs::Def::Port::past_rules))]
-fn past_rules(clause: &mut Cursor<'_, '_>) -> Result<(), ReadFault>
+pub(crate) fn past_rules(clause: &mut Cursor<'_, '_>) -> Result<(), ReadFault>
     ensures { Reads (λ x. x) result clause.new (past_rules clause.old) }
 {
     past_number(b"SPACING", clause)?;

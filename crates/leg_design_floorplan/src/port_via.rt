@@ -75,7 +75,7 @@ fn push_shape<A: Allocator + Copy>(
 
 /// Adds the rectangles of a via that lies at a point.
 #[tactic(auto, using(leg_lex::proofs::EachElement::over_ends, leg_lex::proofs::EachElement::over_goes_on, leg_lex::proofs::EachElement::over_fails))]
-fn push_shapes<A: Allocator + Copy>(
+pub(crate) fn push_shapes<A: Allocator + Copy>(
     library: &Library<'_, A>,
     at: &Point,
     of_via: &[Shape],

@@ -4,7 +4,6 @@ ghost use Rattle.std.specs.Prelude.{◌≡◌, []};
 ghost use Rattle.leg_lex.specs.Words.{Reads, Means};
 ghost use Rattle.leg_lex.specs.Until.{over, until};
 ghost use Rattle.leg_lex.specs.Statements.{at_end};
-ghost use Rattle.leg_grammar.specs.Def.GeneratedVia.{is_generated};
 ghost use Rattle.leg_grammar.specs.Def.Via.{via_rect, is_other_via, via_clause, via_head, shapes_in, via_in, via_entry, vias_at};
 
 use crate::generated_via::generated_shapes;
@@ -12,6 +11,7 @@ use crate::via_list::ViaList;
 use leg_design_common::clause::{clause, rect_or_mask};
 use leg_design_common::layers::{layer, push_rect};
 use leg_design_common::section_start;
+use leg_generated_via::is_generated;
 use leg_grammar::Profile;
 use leg_lex::{Cursor, FaultKind, Name, NameKind, NamedList, Need, ReadFault, clauses};
 use leg_lib_records::{Library, ShapeList, Via};
@@ -81,13 +81,6 @@ fn all_shapes<A: Allocator + Copy>(
         via_clause(library, is_masked, &mut shapes, &mut part.again())?;
     }
     Ok(shapes)
-}
-
-/// Whether a via is generated: one of its clauses is `VIARULE`.
-fn is_generated(clauses: &[Cursor<'_, '_>]) -> bool
-    ensures { result ≡ is_generated clauses.now }
-{
-    clauses.iter().any(|clause| clause.is_at(b"VIARULE"))
 }
 
 /// The shapes that the clauses of a via say. The wide profile takes generated vias too.

@@ -1,9 +1,9 @@
 //! The vias of a DEF that were read so far.
 
-ghost use Rattle.std.specs.Prelude.{◌≡◌, ◌++◌, ◌∷◌, [], None, OnOk, is_some};
+ghost use Rattle.std.specs.Prelude.{◌≡◌, ◌-◌, ◌^◌, ◌++◌, ◌∷◌, [], None, OnOk, is_some, min};
 ghost use Rattle.leg_lex.specs.NameLookup.{place_of};
 ghost use Rattle.leg_design_records.specs.Records.{design_via_names};
-ghost use Rattle.leg_grammar.specs.Def.CutArray.{is_room_for_shapes};
+ghost use Rattle.leg_grammar.specs.Def.CutArray.{shape_count, is_room_for_shapes};
 
 use leg_design_records::PART_LIMIT;
 use leg_lex::NamedList;
@@ -42,6 +42,21 @@ impl<'a, A: Allocator + Copy> ViaList<'a, A> {
         }
     }
 
+    /// These vias.
+    pub(crate) fn of(vias: NamedList<'a, Via<'a, A>, A>) -> ViaList<'a, A>
+        ensures { result ≡ vias.entry }
+    {
+        let shapes = shape_count(vias.as_slice());
+        ViaList { vias, shapes }
+    }
+
+    /// The vias, each found by its name.
+    pub(crate) fn as_list(&self) -> &NamedList<'a, Via<'a, A>, A>
+        ensures { result.now ≡ self.now }
+    {
+        &self.vias
+    }
+
     /// Whether a via has this name.
     pub(crate) fn has(&self, name: &[u8]) -> bool
         ensures { result ≡ is_some (place_of name.now (design_via_names self.now)) }
@@ -73,4 +88,15 @@ impl<'a, A: Allocator + Copy> ViaList<'a, A> {
     {
         self.vias
     }
+}
+
+/// How many rectangles vias have, `usize::MAX` where they are more.
+fn shape_count<A: Allocator + Copy>(vias: &[Via<'_, A>]) -> usize
+    ensures { result ≡ min (shape_count vias.now) (2 ^ 64 - 1) }
+{
+    let mut count: usize = 0;
+    for via in vias {
+        count = count.saturating_add(via.shapes.as_slice().len());
+    }
+    count
 }

@@ -16,16 +16,5 @@ mod TerminalLists
 mod ListedNets
 mod TerminalsOfEntries
 mod MoreTerminals
--- Paths, item by item.
-mod Paths
-mod ViaLayers
-mod ViaArrays
-mod Walks
-mod PathItems
-mod ReadPaths
--- Clauses of an entry, and the wiring in them.
-mod Wirings
-mod SpecialShapes
-mod ReadWiring
-mod ReadShapes
+-- Clauses of an entry.
 mod NetClauses

@@ -12,10 +12,10 @@ use Rattle.leg_lex.proofs.Shorter.{mark_below, keyword_below, word_below}
 use Rattle.leg_grammar.specs.Def.Guard.{unless, is_over}
 use Rattle.leg_grammar.specs.Def.NetScope.{NetScopeModel}
 use Rattle.leg_grammar.specs.Def.Wiring.{is_wiring}
-use Rattle.leg_grammar.specs.Def.Net.{NetParts, is_left_out, use_clause, wiring_clause, shape_clause, from_plus, past_clause, clause_at, net_clause}
+use Rattle.leg_grammar.specs.Def.Net.{NetParts, is_left_out, use_clause, is_rule_clause, rule_clause, wiring_clause, shape_clause, from_plus, past_clause, clause_at, net_clause}
 use Rattle.leg_design_common.proofs.Guards.{over_is, not_over_is}
-use Rattle.leg_design_nets.proofs.Wirings.{wiring_below}
-use Rattle.leg_design_nets.proofs.SpecialShapes.{shape_below}
+use Rattle.leg_design_wires.proofs.Wirings.{rule_below, wiring_below}
+use Rattle.leg_design_wires.proofs.SpecialShapes.{shape_below}
 
 -- a plus has no capitals
 lower_plus : (b : ℕ) → (to_ascii_lowercase b == 43) ≡ (b == 43)
@@ -77,6 +77,13 @@ use_clause_below parts clause =
     below_bind (omega arith) (keyword_below (codes "USE") clause) (λ start less.
     below_bind (omega arith) (word_below start.1) (λ word fewer. below_some (record parts { usage = Some word.0 }) word.1 fewer)))
 
+rule_clause_below : (scope : NetScopeModel) (parts : NetParts) (clause : Words) → Below (length clause) (rule_clause scope parts clause)
+unfolding rule_clause
+rule_clause_below scope parts clause =
+    below_ask (unless (is_some parts.rule)) (λ once.
+    below_bind (omega arith) (keyword_below (codes "NONDEFAULTRULE") clause) (λ start less.
+    below_bind (omega arith) (rule_below scope start.1) (λ rule fewer. below_some (record parts { rule = Some rule.0 }) rule.1 fewer)))
+
 wiring_clause_below : (scope : NetScopeModel) (special : Bool) (parts : NetParts) (clause : Words)
     → Below (length clause) (wiring_clause scope special parts clause)
 unfolding wiring_clause
@@ -102,7 +109,8 @@ unfolding clause_at
 clause_below scope special parts clause =
     below_if (is_at (codes "USE") clause) (use_clause_below parts clause)
     (below_if (is_wiring special clause) (wiring_clause_below scope special parts clause)
-    (below_if (is_left_out special clause) (shape_clause_below scope special parts clause) (past_clause_below parts clause)))
+    (below_if (is_rule_clause scope.profile special clause) (rule_clause_below scope parts clause)
+    (below_if (is_left_out special clause) (shape_clause_below scope special parts clause) (past_clause_below parts clause))))
 
 pub net_clause_shortens : (scope : NetScopeModel) (special : Bool) → Shortens (net_clause scope special)
 unfolding net_clause

@@ -1,6 +1,6 @@
 -- Entries of nets that are read have names of their own, terminals that are in no other net, and wires such as a DEF can
 -- spell.
-use Rattle.std.proofs.Common.{◌≡◌, ◌≢◌, ℕ, ◌+◌, ◌≤◌, ◌⊎◌, Bool, true, false, ◌||◌, nat_le, nat_lt, List, [], ◌∷◌, ◌++◌, length, All, AllPairs, Contains, Option, None, is_some, codes, inl, inr, ⊎_elim, sym, ap, ◌∙◌, subst, arith}
+use Rattle.std.proofs.Common.{◌≡◌, ◌≢◌, ℕ, ◌+◌, ◌≤◌, ◌⊎◌, Bool, true, false, ◌||◌, nat_le, nat_lt, List, [], ◌∷◌, ◌++◌, length, All, AllPairs, Contains, Option, None, Some, is_some, codes, inl, inr, ⊎_elim, sym, ap, ◌∙◌, subst, arith}
 use Rattle.std.proofs.lemmas.Bool.{or_parts}
 use Rattle.std.proofs.lemmas.Bool.Decides.{nat_tests}
 use Rattle.std.proofs.lemmas.List.{map_push, length_push}
@@ -13,18 +13,18 @@ use Rattle.leg_lex.proofs.NameLookup.{apart_push}
 use Rattle.leg_lex.proofs.GivesAll.{until_gives}
 use Rattle.leg_design_records.specs.declared.limits.TheConstants.{ENTRY_LIMIT, PART_LIMIT}
 use Rattle.leg_grammar.specs.Def.Guard.{unless, is_over}
-use Rattle.leg_grammar.specs.Def.NetScope.{NetScopeModel}
+use Rattle.leg_grammar.specs.Def.NetScope.{NetScopeModel, under_rule}
 use Rattle.leg_grammar.specs.Def.Terminal.{is_of_other_net, at_no_terminal, terminal_form}
-use Rattle.leg_grammar.specs.Def.Wiring.{is_wiring}
+use Rattle.leg_grammar.specs.Def.Wiring.{is_wiring, rule_at}
 use Rattle.leg_design_records.specs.Records.{NetModel, net_names, terminal_count, wire_count}
-use Rattle.leg_grammar.specs.Def.Net.{NetParts, no_net_parts, is_left_out, use_clause, wiring_clause, shape_clause, past_clause, clause_at, net_clause, net_name_at, net_in, are_too_many, net_entry, nets_at}
+use Rattle.leg_grammar.specs.Def.Net.{NetParts, no_net_parts, is_left_out, use_clause, is_rule_clause, rule_clause, wiring_clause, shape_clause, past_clause, clause_at, net_clause, plain_clauses, clauses_under, net_name_at, net_in, are_too_many, net_entry, nets_at}
 use Rattle.leg_design_records.specs.Names.{net_section}
 use Rattle.leg_design_records.specs.WellFormedParts.{IsKept}
 use Rattle.leg_design_records.specs.WellFormedNets.{IsWire, AreInOneNet}
 use Rattle.leg_design_common.proofs.Gives.{Gives, gives_some, gives_bind, gives_skip, gives_if, unless_gives, name_gives, word_gives, section_gives}
-use Rattle.leg_design_nets.proofs.ReadPaths.{AreWires}
-use Rattle.leg_design_nets.proofs.ReadWiring.{wiring_gives}
-use Rattle.leg_design_nets.proofs.ReadShapes.{shape_gives}
+use Rattle.leg_design_wires.proofs.ReadPaths.{AreWires}
+use Rattle.leg_design_wires.proofs.ReadWiring.{wiring_gives}
+use Rattle.leg_design_wires.proofs.ReadShapes.{shape_gives}
 use Rattle.leg_design_nets.proofs.TerminalsOfEntries.{of_this_net}
 use Rattle.leg_design_nets.proofs.ReadTerminals.{AreKnown, AreTerminals, no_terminals, terminal_gives}
 
@@ -54,6 +54,14 @@ module _ (scope : NetScopeModel) (special : Bool) where
         gives_bind (word_gives start.1) (λ word plain.
         gives_some _ (record { usage = plain; wires = before.wires }))))
 
+    rule_keeps : Keeps (rule_clause scope parts clause)
+    unfolding rule_clause
+    rule_keeps =
+        gives_skip (unless (is_some parts.rule)) (λ once.
+        gives_skip (keyword_at (codes "NONDEFAULTRULE") clause) (λ start.
+        gives_skip (rule_at scope start.1) (λ rule.
+        gives_some _ (record { usage = before.usage; wires = before.wires }))))
+
     wiring_keeps : Keeps (wiring_clause scope special parts clause)
     unfolding wiring_clause
     wiring_keeps =
@@ -75,11 +83,25 @@ module _ (scope : NetScopeModel) (special : Bool) where
     clause_keeps =
         gives_if (is_at (codes "USE") clause) use_keeps
         (gives_if (is_wiring special clause) wiring_keeps
-        (gives_if (is_left_out special clause) shape_keeps past_keeps))
+        (gives_if (is_rule_clause scope.profile special clause) rule_keeps
+        (gives_if (is_left_out special clause) shape_keeps past_keeps)))
 
   net_clause_keeps : (parts : NetParts) (words : Words) → AreNetParts parts → Gives (λ said. AreNetParts said.0) (net_clause scope special parts words)
   unfolding net_clause
   net_clause_keeps parts words before = gives_skip (mark_at 43 words) (λ plus. clause_keeps parts plus.1 before)
+
+  plain_give : (words : Words) → Gives (λ said. AreNetParts said.0) (plain_clauses scope special words)
+  plain_give words =
+      until_gives AreNetParts is_over (net_clause scope special) net_clause_keeps no_net_parts words
+      (record { usage = tt; wires = All-nil (IsWire scope.library scope.vias special) })
+
+module _ (scope : NetScopeModel) (special : Bool) where
+  under_gives : (words : Words) (plain : NetParts) → AreNetParts scope special plain → (rule : Option ℕ)
+      → Gives (AreNetParts scope special) (clauses_under scope special words plain rule)
+  unfolding clauses_under
+  under_gives words plain hold None = gives_some plain hold
+  under_gives words plain hold (Some rule) =
+      gives_bind (plain_give (under_rule scope rule) special words) (λ ruled are. gives_some ruled.0 (record { usage = are.usage; wires = are.wires }))
 
   -- a name that none of the entries has
   record IsNewName (nets : List NetModel) (name : List ℕ) : Type 0 where
@@ -98,7 +120,7 @@ module _ (scope : NetScopeModel) (special : Bool) where
   module _ (others : List NetModel) where
     -- one more entry, beside those of the section and the others
     record IsNewNet (nets : List NetModel) (net : NetModel) : Type 0 where
-      is : IsKnownNet net
+      is : IsKnownNet scope special net
       new : place_of net.name (net_names nets) ≡ None
       alone : All (λ t. is_of_other_net net.name t (nets ++ others) ≡ false) net.terminals
 
@@ -109,17 +131,17 @@ module _ (scope : NetScopeModel) (special : Bool) where
         gives_bind (name_gives_new nets dash.1) (λ name new.
         gives_bind (until_gives (AreTerminals scope name.0 (nets ++ others)) at_no_terminal (terminal_form scope special name.0 (nets ++ others))
         (terminal_gives scope special name.0 (nets ++ others)) [] name.1 (no_terminals scope name.0 (nets ++ others))) (λ terminals are.
-        gives_bind (until_gives AreNetParts is_over (net_clause scope special) net_clause_keeps no_net_parts terminals.1
-        (record { usage = tt; wires = All-nil (IsWire scope.library scope.vias special) })) (λ parts hold.
+        gives_bind (plain_give scope special terminals.1) (λ plain said.
+        gives_bind (under_gives terminals.1 plain.0 said plain.0.rule) (λ parts hold.
         gives_some _ (record {
           is = record { name = new.named; no_must_join = new.no_must_join; usage = hold.usage; terminals = are.each; once = are.once; wires = hold.wires };
           new = new.new;
           alone = are.alone;
-        })))))
+        }))))))
 
     -- the entries of the section so far, beside the others
     pub record AreEntries (nets : List NetModel) : Type 0 where
-      pub each : All IsKnownNet nets
+      pub each : All (IsKnownNet scope special) nets
       pub apart : AreApart (net_names nets)
       pub one_net : AreInOneNet (nets ++ others)
       pub few : length nets + length others ≤ ENTRY_LIMIT
@@ -152,7 +174,7 @@ module _ (scope : NetScopeModel) (special : Bool) where
         (nat_lt PART_LIMIT (wire_count (nets ++ net ∷ []) + wire_count others)) few in
         let wires = parts.1 in
         record {
-          each = All-push IsKnownNet nets net before.each new.is;
+          each = All-push (IsKnownNet scope special) nets net before.each new.is;
           apart = rw (map_push (λ (n : NetModel). n.name) nets net) (apart_push net.name (net_names nets) new.new before.apart);
           one_net = still_one_net nets net before.one_net new;
           few = rw (length_push nets net) (grind (arith, nat_tests));

@@ -5,22 +5,13 @@
 #![tactic(auto)]
 
 mod by_name;
-mod coordinate;
-mod count;
 mod known_pins;
 mod lone_pins;
 mod net;
 mod net_table;
-mod path;
-mod path_item;
 mod pin_index;
-mod special_rect;
-mod special_shape;
-mod special_via;
 mod terminal;
 mod terminal_index;
-mod via_array;
-mod wiring;
 
 pub use lone_pins::add_lone_pins;
 pub use net::nets;

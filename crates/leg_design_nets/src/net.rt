@@ -6,18 +6,17 @@ ghost use Rattle.leg_lex.specs.Until.{until, over};
 ghost use Rattle.leg_lex.specs.Statements.{at_end};
 ghost use Rattle.leg_lex.specs.NameLookup.{place_of};
 ghost use Rattle.leg_design_records.specs.declared.limits.TheConstants.{ENTRY_LIMIT};
-ghost use Rattle.leg_grammar.specs.Def.Guard.{is_over};
 ghost use Rattle.leg_design_records.specs.Records.{net_names};
 ghost use Rattle.leg_grammar.specs.Def.Terminal.{add_terminal, terminal_form, at_no_terminal};
-ghost use Rattle.leg_grammar.specs.Def.Net.{no_net_parts, is_left_out_of_wiring, is_left_out, use_clause, wiring_clause, shape_clause, from_plus, past_clause, clause_at, net_clause, net_name_at, net_in, net_entry, nets_at};
+ghost use Rattle.leg_grammar.specs.Def.Net.{is_left_out_of_wiring, is_left_out, use_clause, is_rule_clause, rule_clause, wiring_clause, shape_clause, from_plus, past_clause, clause_at, net_clause, plain_clauses, clauses_under, net_name_at, net_in, net_entry, nets_at};
 
 use crate::known_pins::KnownPins;
 use crate::net_table::{NetTable, NetsBegun};
-use crate::special_shape::shape;
 use crate::terminal::terminals;
-use crate::wiring::{is_wiring, wiring};
 use leg_design_common::{NetScope, section_start};
 use leg_design_records::{ENTRY_LIMIT, Terminal, Wire, net_section};
+use leg_design_wires::{is_wiring, rule, shape, wiring};
+use leg_grammar::Profile;
 use leg_lex::{Cursor, Entry, FaultKind, Name, NameKind, Need, ReadFault, is_keyword};
 use std::alloc::Allocator;
 use std::marker::Model;
@@ -27,6 +26,7 @@ use std::marker::Model;
 struct Parts<'a, A: Allocator> {
     usage: Option<Name<'a>>,
     wires: Vec<Wire, A>,
+    rule: Option<usize>,
 }
 
 impl<'a, A: Allocator> Model for Parts<'a, A> {
@@ -34,7 +34,7 @@ impl<'a, A: Allocator> Model for Parts<'a, A> {
 
     ghost Value = { NetParts };
 
-    ghost view = { λ p. record { usage = p.usage; wires = p.wires.items } };
+    ghost view = { λ p. record { usage = p.usage; wires = p.wires.items; rule = p.rule } };
 }
 
 /// Whether a clause begins with a word that wiring may not have.
@@ -56,6 +56,13 @@ fn is_left_out(special: bool, clause: &Cursor<'_, '_>) -> bool
         || clause.is_at(b"VPIN")
         || is_left_out_of_wiring(clause)
         || (special && (clause.is_at(b"RECT") || clause.is_at(b"POLYGON") || clause.is_at(b"VIA")))
+}
+
+/// Whether a clause names the rule of an entry: in `NETS` of the wide profile alone.
+fn is_rule_clause(profile: Profile, special: bool, clause: &Cursor<'_, '_>) -> bool
+    ensures { result ≡ is_rule_clause profile special clause.now }
+{
+    profile.is_wide() && !special && clause.is_at(b"NONDEFAULTRULE")
 }
 
 /// Reads past the words up to the next `+`.
@@ -81,6 +88,24 @@ impl<'a, A: Allocator + Copy> Parts<'a, A> {
         clause.keyword(b"USE")?;
         let word = clause.word()?;
         self.usage = Some(Name::new(word));
+        Ok(())
+    }
+
+    /// `NONDEFAULTRULE rule`, at most once.
+    #[tactic(auto, unfolding(leg_grammar::specs::Def::Net::rule_clause))]
+    fn rule_clause(
+        &mut self,
+        scope: &NetScope<'_, 'a, A>,
+        clause: &mut Cursor<'_, 'a>,
+    ) -> Result<(), ReadFault>
+        ensures { Reads (λ _. self.new) result clause.new (rule_clause scope.now self.old clause.old) }
+    {
+        if self.rule.is_some() {
+            return Err(clause.need(FaultKind::Unexpected, Need::NoSecond));
+        }
+        clause.keyword(b"NONDEFAULTRULE")?;
+        let number = rule(scope, clause)?;
+        self.rule = Some(number);
         Ok(())
     }
 
@@ -140,6 +165,8 @@ impl<'a, A: Allocator + Copy> Parts<'a, A> {
             self.use_clause(clause)
         } else if is_wiring(special, clause) {
             self.wiring_clause(alloc, scope, special, clause)
+        } else if is_rule_clause(scope.profile, special, clause) {
+            self.rule_clause(scope, clause)
         } else if is_left_out(special, clause) {
             self.shape_clause(alloc, scope, special, clause)
         } else {
@@ -163,7 +190,7 @@ impl<'a, A: Allocator + Copy> Parts<'a, A> {
     }
 }
 
-/// The clauses of an entry, up to its end.
+/// The clauses of an entry under no rule, or under that of the scope, up to its end.
 #[tactic(auto, using(crate::proofs::NetClauses::clauses_on, crate::proofs::NetClauses::clauses_end, crate::proofs::NetClauses::clauses_fail, crate::proofs::NetClauses::net_clause_shorter))]
 fn all_clauses<'a, A: Allocator + Copy>(
     alloc: A,
@@ -171,16 +198,34 @@ fn all_clauses<'a, A: Allocator + Copy>(
     special: bool,
     words: &mut Cursor<'_, 'a>,
 ) -> Result<Parts<'a, A>, ReadFault>
-    ensures { Reads (λ p. p) result words.new (until is_over (net_clause scope.now special) no_net_parts words.old) }
+    ensures { Reads (λ p. p) result words.new (plain_clauses scope.now special words.old) }
 {
     let mut parts = Parts {
         usage: None,
         wires: Vec::new(alloc),
+        rule: None,
     };
     'clauses: while !words.is_at_end() {
         parts.add(alloc, scope, special, words)?;
     }
     Ok(parts)
+}
+
+/// What the clauses of an entry say under the rule that one of them names, where they say this under no rule.
+#[tactic(auto, unfolding(leg_grammar::specs::Def::Net::clauses_under))]
+fn clauses_under<'a, A: Allocator + Copy>(
+    alloc: A,
+    scope: &NetScope<'_, 'a, A>,
+    special: bool,
+    words: &mut Cursor<'_, 'a>,
+    plain: Parts<'a, A>,
+) -> Result<Parts<'a, A>, ReadFault>
+    ensures { Means (λ p. p) result (clauses_under scope.now special words.old plain.entry plain.entry.rule) }
+{
+    match plain.rule {
+        None => Ok(plain),
+        Some(rule) => all_clauses(alloc, &scope.under(rule), special, words),
+    }
 }
 
 /// The terminals of a pair of parentheses are added to the entry of this name that is being read. A fault is at the next
@@ -266,7 +311,8 @@ fn net_name<'a, A: Allocator + Copy>(
     Ok(name)
 }
 
-/// The name, the terminals and the clauses of an entry; its terminals are those of the entry that is being read.
+/// The name, the terminals and the clauses of an entry; its terminals are those of the entry that is being read. Where a clause names a
+/// rule, all clauses are read again under it.
 #[tactic(auto, unfolding(leg_grammar::specs::Def::Net::net_in))]
 fn net<'a, A: Allocator + Copy>(
     alloc: A,
@@ -285,7 +331,9 @@ fn net<'a, A: Allocator + Copy>(
     statement.mark(b'-')?;
     let name = net_name(table, statement)?;
     all_terminals(alloc, scope, special, others, name, table, statement)?;
-    let parts = all_clauses(alloc, scope.scope(), special, statement)?;
+    let mut first = statement.again();
+    let plain = all_clauses(alloc, scope.scope(), special, &mut first)?;
+    let parts = clauses_under(alloc, scope.scope(), special, statement, plain)?;
     Ok((name, parts))
 }
 

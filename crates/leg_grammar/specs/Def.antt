@@ -4,7 +4,10 @@ pub mod Clause
 pub mod TrackMask
 pub mod Section
 pub mod Placement
+pub mod Polygon
 pub mod Layers
+pub mod Rule
+pub mod Turns
 pub mod NetScope
 pub mod Header
 pub mod Die
@@ -18,6 +21,7 @@ pub mod Via
 pub mod Component
 pub mod Port
 pub mod PortVia
+pub mod TurnedVia
 pub mod PinClauses
 pub mod Pin
 pub mod BlockageClause
@@ -30,6 +34,7 @@ pub mod Path
 pub mod Wiring
 pub mod SpecialRect
 pub mod SpecialVia
+pub mod SpecialPolygon
 pub mod SpecialShape
 pub mod Net
 pub mod LonePins

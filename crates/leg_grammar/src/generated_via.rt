@@ -1,9 +1,18 @@
-//! Generated vias of a DEF (LEF/DEF 5.8, "Vias").
+//! Generated vias (LEF/DEF 5.8, "Vias", "Via").
 
 use leg_geom::Point;
 
 /// A generated via has at most this many rows, as many columns, and rows times columns (lefdef's own rule).
 pub const CUT_LIMIT: u64 = 10_000;
+
+/// How the numbers of a generated via are written, and in which unit they are.
+#[derive(Clone, Copy, PartialEq, Eq, Debug)]
+pub enum ViaNumbers {
+    /// Whole numbers, in database units.
+    Units,
+    /// Lengths in microns, in millionths of a micron.
+    Microns,
+}
 
 /// The layers of a generated via, by their numbers.
 #[derive(Clone, Copy)]

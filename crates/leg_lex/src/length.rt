@@ -33,7 +33,7 @@ impl Model for Micron {
 
 impl Micron {
     /// The length of this number of millionths of a micron.
-    pub(crate) fn of_millionths(millionths: i64) -> Micron
+    pub fn of_millionths(millionths: i64) -> Micron
         requires { unsigned_abs millionths ≤ MILLIONTHS_LIMIT }
         ensures { result ≡ millionths }
     {

@@ -83,6 +83,8 @@ pub enum NameKind {
     MacroPin,
     /// An entry of `NETS` or of `SPECIALNETS`.
     Net,
+    /// A nondefault rule, of the LEFs or of `NONDEFAULTRULES`.
+    Rule,
 }
 
 /// What has a limit in number.

@@ -19,7 +19,7 @@ use Rattle.leg_polygon.proofs.NumberFolds.{odd_from}
 use Rattle.leg_polygon.proofs.ClosedWalk.{side_ends}
 use Rattle.leg_polygon.proofs.Bands.{from_flat_map}
 use Rattle.leg_polygon.proofs.SlabSquares.{AreSlabs-slabs}
-use Rattle.leg_grammar.specs.declared.limits.TheConstants.{POLYGON_LIMIT}
+use Rattle.leg_grammar.specs.declared.limits.TheConstants.{POLYGON_SLABS}
 use Rattle.leg_grammar.specs.Lef.Polygon.{slabs_within}
 use Rattle.leg_lib.specs.Steps.Sides.{StandsAt}
 
@@ -123,7 +123,7 @@ module _ (points : List PointModel) where
   slabs_give : Gives (All Stands) (slabs_within points)
   unfolding slabs_within
   slabs_give =
-      gives_if (nat_le (length points) POLYGON_LIMIT)
+      gives_if (nat_le (length (slabs points)) POLYGON_SLABS)
       (gives_if (list_all is_straight (walk points)) (some_give Stands (slabs points) slabs_stand) gives_none)
       gives_none
 

@@ -3,7 +3,7 @@ use Rattle.std.proofs.Common.{◌≡◌, true, ◌&&◌, Some, IsTrue, ℤ, pos,
 use Rattle.std.proofs.lemmas.Bool.{and_parts}
 use Rattle.leg_lemmas.proofs.Integers.{lt_from_test}
 use Rattle.leg_lex.specs.Words.{Words, is_name, next_at, keyword_at, name_at, length_at, end_of, nothing_at}
-use Rattle.leg_lex.specs.Until.{until, over}
+use Rattle.leg_lex.specs.Until.{until}
 use Rattle.leg_lex.specs.Statements.{statements_at, the, at_end}
 use Rattle.leg_lex.proofs.Gives.{Gives, gives_none, gives_some, gives_bind, gives_skip, gives_choice}
 use Rattle.leg_lib_records.specs.declared.raw.RawLayer.{RawLayer}
@@ -14,7 +14,7 @@ use Rattle.leg_grammar.specs.declared.profile.Profile.{Profile}
 use Rattle.leg_grammar.specs.Lef.Layer.{kind_in, spacing_of, layer_at}
 use Rattle.leg_grammar.specs.Lef.Point.{size_in}
 use Rattle.leg_grammar.specs.Lef.Site.{site_at}
-use Rattle.leg_grammar.specs.Lef.Via.{flags_at, via_part, no_via_parts, via_at}
+use Rattle.leg_grammar.specs.Lef.Via.{flags_at, via_parts_in, via_at}
 use Rattle.leg_grammar.specs.Lef.Macro.{macro_part, no_macro_parts, macro_said, macro_at}
 
 pub name_gives : (words : Words) → Gives (λ said. IsTrue (is_name said.0)) (name_at words)
@@ -75,7 +75,7 @@ via_gives profile library words =
     gives_skip (keyword_at (codes "VIA") words) (λ start.
     gives_bind (name_gives start.1) (λ name named.
     gives_skip (statements_at (flags_at name.1).1) (λ body.
-    gives_skip (over (via_part profile library) no_via_parts body.0) (λ parts.
+    gives_skip (via_parts_in profile library body.0) (λ parts.
     gives_skip (end_of name.0 body.1) (λ end.
     gives_some _ named)))))
 

@@ -9,7 +9,7 @@ use Rattle.leg_lex.proofs.Shorter.{keyword_below, name_below, end_of_below}
 use Rattle.leg_lex.proofs.Statements.{statements_below}
 use Rattle.leg_lib_records.specs.Records.{RawLibraryModel, raw_via_names}
 use Rattle.leg_grammar.specs.declared.profile.Profile.{Profile}
-use Rattle.leg_grammar.specs.Lef.Via.{Flags, no_flags, flag_at, flags_at, ViaParts, no_via_parts, via_part, is_good, kept, via_at, with_via}
+use Rattle.leg_grammar.specs.Lef.Via.{Flags, no_flags, flag_at, flags_at, ViaParts, via_part, via_parts_in, is_good, kept, via_at, with_via}
 
 -- where the last step says nothing, neither do the steps before it
 pub nothing_said : {X Y : Type 0} (said : Option X) (last : Option Y) → last ≡ None → (said >>= λ x. last) ≡ None
@@ -49,7 +49,7 @@ via_below profile library words =
     below_bind (omega arith) (name_below start.1) (λ name fewer.
     let no_more = flags_no_longer name.1 in
     below_bind (omega arith) (statements_below (flags_at name.1).1) (λ body shorter.
-    below_ask (over (via_part profile library) no_via_parts body.0) (λ parts.
+    below_ask (via_parts_in profile library body.0) (λ parts.
     below_bind (omega arith) (end_of_below name.0 body.1) (λ end last.
     below_some (record {
       name = name.0;

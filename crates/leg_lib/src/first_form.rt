@@ -10,13 +10,14 @@ use leg_lex::{Cursor, FaultKind, NameKind, Need, ReadFault, file_words};
 use leg_lib_records::RawLibrary;
 use std::alloc::Allocator;
 
-/// Whether a library has a layer, a site, a macro or a via of this name.
+/// Whether a library has a layer, a site, a macro, a via or a nondefault rule of this name.
 fn defines<A: Allocator + Copy>(library: &RawLibrary<'_, A>, kind: NameKind, name: &[u8]) -> bool {
     match kind {
         NameKind::Layer => library.layer_named(name).is_some(),
         NameKind::Site => library.site_named(name).is_some(),
         NameKind::Macro => library.master_named(name).is_some(),
         NameKind::Via => library.via_named(name).is_some(),
+        NameKind::Rule => library.rule_named(name).is_some(),
         _ => false,
     }
 }

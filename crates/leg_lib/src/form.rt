@@ -7,6 +7,7 @@ ghost use Rattle.leg_grammar.specs.Lef.Form.{no_lef_parts, library_form_at, lef_
 
 use crate::layer::layer_form;
 use crate::macro_skip::macro_form;
+use crate::rule::{is_at_rule, rule_form};
 use crate::site::site_form;
 use crate::skipped::past_form;
 use crate::via::via_form;
@@ -61,6 +62,8 @@ fn library_form<'a, A: Allocator + Copy>(
         site_form(alloc, library, words)
     } else if words.is_at(b"MACRO") {
         macro_form(alloc, profile, library, words)
+    } else if is_at_rule(profile, words) {
+        rule_form(alloc, profile, library, words)
     } else {
         past_form(words)
     }

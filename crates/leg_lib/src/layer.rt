@@ -96,7 +96,7 @@ pub(crate) fn first_of_one_word<'t, 'a>(
 
 /// The width that a `WIDTH` statement gives, above 0.
 #[tactic(auto, unfolding(leg_grammar::specs::Lef::Layer::width_in, leg_grammar::specs::Lef::Layer::length_in))]
-fn width(statement: &mut Cursor<'_, '_>) -> Result<Micron, ReadFault>
+pub(crate) fn width(statement: &mut Cursor<'_, '_>) -> Result<Micron, ReadFault>
     ensures { Means (λ w. w) result (width_in statement.old) }
 {
     statement.any()?;

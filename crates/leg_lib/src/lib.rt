@@ -4,8 +4,10 @@
 //! profile. The records of a library are those of `leg_lib_records`.
 #![tactic(auto)]
 
+mod copies;
 mod first_form;
 mod form;
+mod generated_via;
 mod geometry;
 pub mod laws;
 mod layer;
@@ -13,10 +15,13 @@ mod macro_part;
 mod macro_skip;
 mod macros;
 mod named;
+mod path;
 mod pin;
+mod placed_via;
 mod point;
 mod polygon;
 mod read;
+mod rule;
 mod site;
 mod skipped;
 mod spacing;

@@ -179,6 +179,8 @@ pub(crate) fn master_form<'a, A: Allocator + Copy>(
     ensures unchanged { OnErr result (library.new ≡ library.old) }
 {
     let first = words.again();
+    // The vias of the library are on its layers.
+    let _sound = library.layers();
     let master = master(alloc, profile, library, words)?;
     if library.master_named(master.name.bytes()).is_some() {
         return Err(second_definition(&first, NameKind::Macro));

@@ -7,7 +7,7 @@ ghost use Rattle.leg_grammar.specs.Lef.Point.{coordinates_at, enclosed_point_at,
 ghost use Rattle.leg_lib_records.specs.Measure.{rect_between};
 
 use leg_grammar::Profile;
-use leg_grammar::mask::past_mask;
+use leg_grammar::mask::{is_at_mask, mask};
 use leg_lex::{Cursor, FaultKind, Micron, ReadFault};
 use leg_lib_records::{RawExtent, RawPoint, RawRect};
 
@@ -45,7 +45,7 @@ pub(crate) fn point(words: &mut Cursor<'_, '_>) -> Result<RawPoint, ReadFault>
 }
 
 /// The lower of two lengths.
-fn lower(a: Micron, b: Micron) -> Micron
+pub(crate) fn lower(a: Micron, b: Micron) -> Micron
     ensures { result ≡ int_min a b }
 {
     if b.millionths() < a.millionths() {
@@ -56,7 +56,7 @@ fn lower(a: Micron, b: Micron) -> Micron
 }
 
 /// The higher of two lengths.
-fn higher(a: Micron, b: Micron) -> Micron
+pub(crate) fn higher(a: Micron, b: Micron) -> Micron
     ensures { result ≡ int_max a b }
 {
     if b.millionths() < a.millionths() {
@@ -68,7 +68,7 @@ fn higher(a: Micron, b: Micron) -> Micron
 
 /// The rectangle between two corners, which are in any order, where it has area.
 #[tactic(auto, unfolding(leg_lib_records::specs::Measure::rect_between))]
-fn rect_between(p: &RawPoint, q: &RawPoint) -> Option<RawRect>
+pub(crate) fn rect_between(p: &RawPoint, q: &RawPoint) -> Option<RawRect>
     ensures { result ≡ rect_between p.now q.now }
 {
     let x1 = lower(p.x(), q.x());
@@ -83,12 +83,14 @@ fn rect_between(p: &RawPoint, q: &RawPoint) -> Option<RawRect>
 }
 
 /// The rectangle of a `RECT` statement, whose corners are in any order.
-#[tactic(auto, unfolding(leg_grammar::specs::Lef::Point::rect_in))]
+#[tactic(auto, unfolding(leg_grammar::specs::Lef::Point::rect_in, leg_grammar::specs::Mask::past_mask))]
 pub(crate) fn rect(profile: Profile, statement: &mut Cursor<'_, '_>) -> Result<RawRect, ReadFault>
     ensures { Means (λ r. r) result (rect_in profile statement.old) }
 {
     statement.keyword(b"RECT")?;
-    past_mask(profile, statement)?;
+    if is_at_mask(profile, statement) {
+        mask(statement)?;
+    }
     let corner = statement.again();
     let p = point(statement)?;
     let q = point(statement)?;

@@ -11,7 +11,7 @@ ghost use Rattle.leg_lib.specs.Steps.Sides.{StandsAt};
 
 use crate::point::point;
 use leg_grammar::mask::past_mask;
-use leg_grammar::{POLYGON_LIMIT, Profile};
+use leg_grammar::{POLYGON_SLABS, Profile};
 use leg_lex::{Cursor, FaultKind, Micron, ReadFault};
 use leg_lib_records::{RawPoint, RawRect};
 use leg_polygon::{PolygonFault, Slab, Vertex, slabs};
@@ -26,7 +26,7 @@ pub(crate) fn is_read_polygon(profile: Profile, statement: &Cursor<'_, '_>) -> b
 
 /// Adds the point that comes next.
 #[tactic(auto, unfolding(leg_grammar::specs::Lef::Polygon::one_point))]
-fn one_point<A: Allocator + Copy>(
+pub(crate) fn one_point<A: Allocator + Copy>(
     points: &mut Vec<RawPoint, A>,
     words: &mut Cursor<'_, '_>,
 ) -> Result<(), ReadFault>
@@ -39,7 +39,7 @@ fn one_point<A: Allocator + Copy>(
 
 /// Adds the points that are left.
 #[tactic(auto, using(leg_lex::proofs::Until::ends, leg_lex::proofs::Until::goes_on, leg_lex::proofs::Until::fails, crate::proofs::Points::over_is, crate::proofs::Points::not_over_is, crate::proofs::Points::one_point_shortens, crate::proofs::Points::one_point_shorter))]
-fn more_points<A: Allocator + Copy>(
+pub(crate) fn more_points<A: Allocator + Copy>(
     points: &mut Vec<RawPoint, A>,
     words: &mut Cursor<'_, '_>,
 ) -> Result<(), ReadFault>
@@ -161,12 +161,13 @@ fn kind_of(fault: PolygonFault) -> FaultKind
 {
     match fault {
         PolygonFault::Slanted => FaultKind::Unsupported,
+        PolygonFault::TooMany => FaultKind::TooLarge,
         PolygonFault::Empty => FaultKind::EmptyRect,
         PolygonFault::Memory => FaultKind::Memory,
     }
 }
 
-/// The slabs of the polygon with these points. More than `POLYGON_LIMIT` points are `TooLarge`, a side that is neither
+/// The slabs of the polygon with these points. More than `POLYGON_SLABS` slabs are `TooLarge`, a side that is neither
 /// horizontal nor vertical is `Unsupported`, and a polygon without area is `EmptyRect`.
 #[tactic(auto, unfolding(leg_grammar::specs::Lef::Polygon::slabs_within))]
 fn slabs_within<A: Allocator + Copy>(
@@ -176,18 +177,15 @@ fn slabs_within<A: Allocator + Copy>(
 ) -> Result<Vec<Slab, A>, ReadFault>
     ensures { Means (λ v. v.items) result (slabs_within points.now) }
 {
-    if points.len() as u64 > POLYGON_LIMIT {
-        return Err(statement.fault(FaultKind::TooLarge));
-    }
     let vertices = vertices(alloc, points)?;
-    match slabs(alloc, &vertices) {
+    match slabs(alloc, &vertices, POLYGON_SLABS) {
         Ok(slabs) => Ok(slabs),
         Err(fault) => Err(statement.fault(kind_of(fault))),
     }
 }
 
 /// The same as rectangles.
-fn rects_within<A: Allocator + Copy>(
+pub(crate) fn rects_within<A: Allocator + Copy>(
     alloc: A,
     statement: &Cursor<'_, '_>,
     points: &[RawPoint],

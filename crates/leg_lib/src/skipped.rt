@@ -1,12 +1,12 @@
 //! The forms that are read past (LEF/DEF 5.8, "LEF Syntax"; lefdef's own rule).
 
 ghost use Rattle.leg_lex.specs.Words.{Reads};
-ghost use Rattle.leg_grammar.specs.Lef.Form.{past_named, past_lef_section, past_statement, past_lef_form};
+ghost use Rattle.leg_grammar.specs.Lef.SkippedForms.{past_named, past_lef_section, past_statement, past_lef_form};
 
 use leg_lex::{Cursor, ReadFault};
 
 /// A keyword, a name, and everything up to `END` and this name.
-#[tactic(auto, unfolding(leg_grammar::specs::Lef::Form::past_named))]
+#[tactic(auto, unfolding(leg_grammar::specs::Lef::SkippedForms::past_named))]
 fn past_named(words: &mut Cursor<'_, '_>) -> Result<(), ReadFault>
     ensures { Reads (λ x. x) result words.new (past_named words.old) }
 {
@@ -16,8 +16,8 @@ fn past_named(words: &mut Cursor<'_, '_>) -> Result<(), ReadFault>
 }
 
 /// This keyword, and everything up to `END` and the keyword.
-#[tactic(auto, unfolding(leg_grammar::specs::Lef::Form::past_lef_section))]
-fn past_section(keyword: &[u8], words: &mut Cursor<'_, '_>) -> Result<(), ReadFault>
+#[tactic(auto, unfolding(leg_grammar::specs::Lef::SkippedForms::past_lef_section))]
+pub(crate) fn past_section(keyword: &[u8], words: &mut Cursor<'_, '_>) -> Result<(), ReadFault>
     ensures { Reads (λ x. x) result words.new (past_lef_section keyword.now words.old) }
 {
     words.keyword(keyword)?;
@@ -25,8 +25,8 @@ fn past_section(keyword: &[u8], words: &mut Cursor<'_, '_>) -> Result<(), ReadFa
 }
 
 /// Any other form, up to its semicolon.
-#[tactic(auto, unfolding(leg_grammar::specs::Lef::Form::past_statement))]
-fn past_statement(words: &mut Cursor<'_, '_>) -> Result<(), ReadFault>
+#[tactic(auto, unfolding(leg_grammar::specs::Lef::SkippedForms::past_statement))]
+pub(crate) fn past_statement(words: &mut Cursor<'_, '_>) -> Result<(), ReadFault>
     ensures { Reads (λ x. x) result words.new (past_statement words.old) }
 {
     words.statement()?;
@@ -34,7 +34,7 @@ fn past_statement(words: &mut Cursor<'_, '_>) -> Result<(), ReadFault>
 }
 
 /// A form that adds nothing to the library.
-#[tactic(auto, unfolding(leg_grammar::specs::Lef::Form::past_lef_form))]
+#[tactic(auto, unfolding(leg_grammar::specs::Lef::SkippedForms::past_lef_form))]
 pub(crate) fn past_form(words: &mut Cursor<'_, '_>) -> Result<(), ReadFault>
     ensures { Reads (λ x. x) result words.new (past_lef_form words.old) }
 {

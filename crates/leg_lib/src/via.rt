@@ -1,12 +1,17 @@
-//! Vias (LEF/DEF 5.8, "Via"; which of them are good is lefdef's own rule).
+//! Vias (LEF/DEF 5.8, "Via"; which of them are good, and that one whose shapes aren't read is kept by its name, are lefdef's own rules).
 
 ghost use Rattle.std.specs.Prelude.{◌≡◌, ◌≢◌, codes, not, ◌&&◌, if◌then◌else◌, drop, Some, IfOk, IfErr};
 ghost use Rattle.leg_lex.specs.Words.{Reads, Means, is_at};
 ghost use Rattle.leg_lex.specs.Until.{over};
-ghost use Rattle.leg_grammar.specs.Lef.Via.{flag_at, flags_at, no_via_parts, layer_of_via, spoils, via_part, is_good, kept, via_at, with_via};
+ghost use Rattle.leg_grammar.specs.Lef.Geometry.{drawn_polygon};
+ghost use Rattle.leg_grammar.specs.Lef.GeneratedVia.{raw_generated_shapes};
+ghost use Rattle.leg_grammar.specs.Lef.Via.{flag_at, flags_at, no_via_parts, layer_of_via, spoils, with_drawn, via_part, generated_parts, via_parts_in, is_good, kept, via_at, with_via};
 
+use crate::generated_via::generated_shapes;
 use crate::geometry::Drawing;
 use crate::named::second_definition;
+use crate::polygon::is_read_polygon;
+use leg_generated_via::is_generated;
 use leg_grammar::Profile;
 use leg_grammar::mask::drops_masks;
 use leg_lex::{Cursor, FaultKind, Name, NameKind, Need, ReadFault};
@@ -134,11 +139,11 @@ fn is_masked_rect(statement: &Cursor<'_, '_>) -> Result<bool, ReadFault>
     Ok(rect.is_at(b"MASK"))
 }
 
-/// Whether a via with this statement isn't good: `VIARULE`, `POLYGON`, and `RECT MASK` unless masks are dropped.
+/// Whether a via with this statement isn't good: `VIARULE`, `POLYGON` where it isn't read, and `RECT MASK` unless masks are dropped.
 fn spoils(profile: Profile, statement: &Cursor<'_, '_>) -> Result<bool, ReadFault>
     ensures { Means (λ is. is) result (Some (spoils profile statement.now)) }
 {
-    if statement.is_at(b"VIARULE") || statement.is_at(b"POLYGON") {
+    if statement.is_at(b"VIARULE") || (!profile.is_wide() && statement.is_at(b"POLYGON")) {
         return Ok(true);
     }
     if drops_masks(profile) {
@@ -158,10 +163,40 @@ impl<A: Allocator + Copy> ViaParts<A> {
         }
     }
 
+    /// The shapes with the slabs of a `POLYGON` statement. Where that cannot be read, the via has no shapes, and isn't good.
+    fn polygon(
+        &mut self,
+        alloc: A,
+        profile: Profile,
+        library: &RawLibrary<'_, A>,
+        statement: &mut Cursor<'_, '_>,
+    ) -> Result<(), ReadFault>
+        ensures { Means (λ _. self.new) result (Some (with_drawn self.old (drawn_polygon profile library.now self.old.drawn statement.old))) }
+    {
+        let (on, width) = (self.drawing.on, self.drawing.width);
+        match self
+            .drawing
+            .draw_polygon(alloc, profile, library, statement)
+        {
+            Ok(()) => Ok(()),
+            Err(fault) if fault.kind == FaultKind::Memory => Err(fault),
+            Err(_) => {
+                self.drawing = Drawing {
+                    on,
+                    width,
+                    shapes: Vec::new(alloc),
+                };
+                self.is_spoilt = true;
+                Ok(())
+            }
+        }
+    }
+
     /// One more statement.
     #[tactic(auto, unfolding(leg_grammar::specs::Lef::Via::via_part))]
     fn part(
         &mut self,
+        alloc: A,
         profile: Profile,
         library: &RawLibrary<'_, A>,
         statement: &mut Cursor<'_, '_>,
@@ -171,9 +206,12 @@ impl<A: Allocator + Copy> ViaParts<A> {
         if spoils(profile, statement)? {
             self.is_spoilt = true;
         } else if statement.is_at(b"LAYER") {
-            self.drawing.on = Some(layer(library, statement)?);
+            let number = layer(library, statement)?;
+            self.drawing.go_to(number);
         } else if statement.is_at(b"RECT") {
             self.drawing.draw_rect(profile, library, statement)?;
+        } else if is_read_polygon(profile, statement) {
+            self.polygon(alloc, profile, library, statement)?;
         }
         Ok(())
     }
@@ -191,9 +229,58 @@ fn parts<A: Allocator + Copy>(
 {
     let mut parts = ViaParts::new(alloc);
     for statement in statements {
-        parts.part(profile, library, &mut statement.again())?;
+        parts.part(alloc, profile, library, &mut statement.again())?;
     }
     Ok(parts)
+}
+
+/// What the statements of a generated via give, which isn't good where its shapes cannot be read.
+fn generated_parts<'a, A: Allocator + Copy>(
+    alloc: A,
+    library: &RawLibrary<'a, A>,
+    statements: &[Cursor<'_, 'a>],
+    end: &Cursor<'_, 'a>,
+) -> Result<ViaParts<A>, ReadFault>
+    ensures { Means (λ p. p) result (Some (generated_parts (raw_generated_shapes library.now statements.now))) }
+{
+    match generated_shapes(alloc, library, statements, end) {
+        Ok(shapes) => Ok(ViaParts {
+            drawing: Drawing {
+                on: None,
+                width: None,
+                shapes,
+            },
+            is_spoilt: false,
+        }),
+        Err(fault) if fault.kind == FaultKind::Memory => Err(fault),
+        Err(_) => Ok(ViaParts {
+            drawing: Drawing::new(alloc),
+            is_spoilt: true,
+        }),
+    }
+}
+
+/// What the statements of a via give. The wide profile takes generated vias too.
+#[tactic(auto, unfolding(leg_grammar::specs::Lef::Via::via_parts_in))]
+fn parts_in<'a, A: Allocator + Copy>(
+    alloc: A,
+    profile: Profile,
+    library: &RawLibrary<'a, A>,
+    statements: &[Cursor<'_, 'a>],
+    end: &Cursor<'_, 'a>,
+) -> Result<ViaParts<A>, ReadFault>
+    ensures { Means (λ p. p) result (via_parts_in profile library.now statements.now) }
+{
+    match profile {
+        Profile::Narrow => parts(alloc, profile, library, statements),
+        Profile::Wide { .. } => {
+            if is_generated(statements) {
+                generated_parts(alloc, library, statements, end)
+            } else {
+                parts(alloc, profile, library, statements)
+            }
+        }
+    }
 }
 
 /// Whether a via of this name and of these statements is good.
@@ -235,7 +322,7 @@ fn via<'a, A: Allocator + Copy>(
     let name = words.name()?;
     let flags = flags(words)?;
     let statements = words.statements(alloc)?;
-    let parts = parts(alloc, profile, library, &statements)?;
+    let parts = parts_in(alloc, profile, library, &statements, words)?;
     words.end_of(name)?;
     let good = is_good(alloc, library, name, &parts)?;
     Ok(RawVia {

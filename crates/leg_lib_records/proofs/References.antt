@@ -5,12 +5,13 @@ use Rattle.leg_geom.specs.Plane.{PointModel}
 use Rattle.leg_lib_records.specs.declared.raw.RawLayer.{RawLayer}
 use Rattle.leg_lib_records.specs.declared.raw.RawSite.{RawSite}
 use Rattle.leg_lib_records.specs.declared.raw.RawShape.{RawShape}
+use Rattle.leg_lib_records.specs.declared.raw.RawRuleWidth.{RawRuleWidth}
 use Rattle.leg_lib_records.specs.declared.records.Shape.{Shape}
-use Rattle.leg_lib_records.specs.Records.{RawLibraryModel, RawViaModel, RawPinModel, RawMasterModel, ViaModel, MasterPinModel, MasterModel, LibraryModel}
+use Rattle.leg_lib_records.specs.Records.{RawLibraryModel, RawViaModel, RawPinModel, RawMasterModel, RawRuleModel, ViaModel, MasterPinModel, MasterModel, RuleModel, LibraryModel}
 use Rattle.leg_lib_records.specs.GoodVia.{is_good_via}
-use Rattle.leg_lib_records.specs.Scale.{IsShapeAt, IsLayerAt, IsSiteAt, IsViaAt, IsPinAt, IsMasterAt, OneForOne, IsLibraryAt, no_shift}
+use Rattle.leg_lib_records.specs.Scale.{IsShapeAt, IsLayerAt, IsSiteAt, IsViaAt, IsPinAt, IsMasterAt, IsRuleWidthAt, IsRuleAt, OneForOne, IsLibraryAt, no_shift}
 use Rattle.leg_lib_records.specs.LibraryNames.{AreNames}
-use Rattle.leg_lib_records.specs.References.{AreRawShapesOn, AreShapesOn, IsRawViaOf, IsRawMasterOf, HasRawReferences, IsViaOf, IsMasterOf, HasReferences}
+use Rattle.leg_lib_records.specs.References.{AreRawShapesOn, AreShapesOn, IsRawViaOf, IsRawMasterOf, IsRawRuleOf, HasRawReferences, IsViaOf, IsMasterOf, IsRuleOf, HasReferences}
 use Rattle.leg_lib_records.proofs.MoreLayers.{good_with_more}
 use Rattle.leg_lib_records.proofs.SameJoins.{good_at}
 
@@ -37,6 +38,11 @@ master_with_more layers more sites others longer wider master of = record {
   obstructions = on_more (length layers) (length more) longer master.obstructions of.obstructions;
 }
 
+rule_with_layer : (layers : List RawLayer) (layer : RawLayer) (rule : RawRuleModel) → IsRawRuleOf layers rule → IsRawRuleOf (layers ++ layer ∷ []) rule
+rule_with_layer layers layer rule of =
+    All-weaker (λ width. width.layer < length layers) (λ width. width.layer < length (layers ++ layer ∷ []))
+    (λ (width : RawRuleWidth) less. omega (arith, less, length-append layers (layer ∷ []))) rule.widths of
+
 pub refers_with_layer : (library : RawLibraryModel) (layer : RawLayer) → HasRawReferences library
     → HasRawReferences (record library { layers = library.layers ++ layer ∷ [] })
 refers_with_layer library layer of = record {
@@ -45,6 +51,7 @@ refers_with_layer library layer of = record {
       All-weaker (IsRawMasterOf library.layers library.sites) (IsRawMasterOf (library.layers ++ layer ∷ []) library.sites)
       (master_with_more library.layers (library.layers ++ layer ∷ []) library.sites library.sites (omega (arith, length-append library.layers (layer ∷ [])))
       (omega arith)) library.masters of.masters;
+  rules = All-weaker (IsRawRuleOf library.layers) (IsRawRuleOf (library.layers ++ layer ∷ [])) (rule_with_layer library.layers layer) library.rules of.rules;
 }
 
 pub refers_with_site : (library : RawLibraryModel) (site : RawSite) → HasRawReferences library
@@ -55,6 +62,7 @@ refers_with_site library site of = record {
       All-weaker (IsRawMasterOf library.layers library.sites) (IsRawMasterOf library.layers (library.sites ++ site ∷ []))
       (master_with_more library.layers library.layers library.sites (library.sites ++ site ∷ []) (omega arith)
       (omega (arith, length-append library.sites (site ∷ [])))) library.masters of.masters;
+  rules = of.rules;
 }
 
 -- what stands one for one is as long
@@ -111,6 +119,13 @@ master_at n raw library at r master of is =
       obstructions = on_at n is.shift (length raw.layers) (length library.layers) layers r.obstructions master.obstructions of.obstructions is.obstructions;
     }
 
+rule_at : (n : ℕ) (raw : RawLibraryModel) (library : LibraryModel) → IsLibraryAt n raw library → (r : RawRuleModel) (rule : RuleModel)
+    → IsRawRuleOf raw.layers r → IsRuleAt n r rule → IsRuleOf library rule
+rule_at n raw library at r rule of is =
+    let layers = as_long (IsLayerAt n) raw.layers library.layers at.layers in
+    all_from (IsRuleWidthAt n) (λ width. width.layer < length raw.layers) (λ width. width.layer < length library.layers)
+    (λ width scaled less same. let e = same.layer in omega (arith, less, e, layers)) r.widths rule.widths of is.widths
+
 -- What is there in millionths of a micron is there in database units.
 pub refers_at : (n : ℕ) (raw : RawLibraryModel) (library : LibraryModel) → 1 ≤ n → HasRawReferences raw → IsLibraryAt n raw library → HasReferences library
 refers_at n raw library some of at = record {
@@ -118,4 +133,5 @@ refers_at n raw library some of at = record {
   masters =
       all_from (IsMasterAt n) (IsRawMasterOf raw.layers raw.sites) (IsMasterOf library)
       (master_at n raw library at) raw.masters library.masters of.masters at.masters;
+  rules = all_from (IsRuleAt n) (IsRawRuleOf raw.layers) (IsRuleOf library) (rule_at n raw library at) raw.rules library.rules of.rules at.rules;
 }

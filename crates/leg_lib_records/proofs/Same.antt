@@ -15,15 +15,17 @@ use Rattle.leg_lib_records.specs.declared.records.LayerKind.TheVariants.{Routing
 use Rattle.leg_lib_records.specs.declared.records.Layer.{Layer}
 use Rattle.leg_lib_records.specs.declared.records.Site.{Site}
 use Rattle.leg_lib_records.specs.declared.records.Shape.{Shape}
+use Rattle.leg_lib_records.specs.declared.records.RuleWidth.{RuleWidth}
 use Rattle.leg_lib_records.specs.declared.records.Supply.{Supply}
 use Rattle.leg_lib_records.specs.declared.records.Supply.TheVariants.{NoSupply, Power, Ground}
-use Rattle.leg_lib_records.specs.Records.{ViaModel, MasterPinModel, MasterModel}
+use Rattle.leg_lib_records.specs.Records.{ViaModel, MasterPinModel, MasterModel, RuleModel}
 use Rattle.leg_lib_records.specs.contracts.records.DirectionPartialEq.TheImpl as direction_eq
 use Rattle.leg_lib_records.specs.contracts.records.LayerKindPartialEq.TheImpl as kind_eq
 use Rattle.leg_lib_records.specs.contracts.records.LayerPartialEq.TheImpl as layer_eq
 use Rattle.leg_lib_records.specs.contracts.records.SitePartialEq.TheImpl as site_eq
 use Rattle.leg_lib_records.specs.contracts.records.ShapePartialEq.TheImpl as shape_eq
 use Rattle.leg_lib_records.specs.contracts.records.SupplyPartialEq.TheImpl as supply_eq
+use Rattle.leg_lib_records.specs.contracts.records.RuleWidthPartialEq.TheImpl as width_eq
 
 direction_decides : (a b : Direction) → Decides (direction_eq.ghosts.eq a b) (a ≡ b)
 direction_decides Horizontal Horizontal = (λ _. refl, λ _. refl)
@@ -165,3 +167,26 @@ master_decides a b =
     (Decides-and _ _ (booleans_Decides a.y_symmetric b.y_symmetric)
     (Decides-and _ _ (number_decides a.site b.site)
     (Decides-and _ _ (pins_decide a.pins b.pins) (shapes_decide a.obstructions b.obstructions))))))
+
+width_decides : (a b : RuleWidth) → Decides (width_eq.ghosts.eq a b) (a ≡ b)
+width_decides a b =
+    Decides-like _
+    (λ p. λ i. record { layer = p.0 i; width = p.1 i })
+    (λ e. (ap (λ (w : RuleWidth). w.layer) e, ap (λ (w : RuleWidth). w.width) e))
+    (Decides-and _ _ (Decides-eqb a.layer b.layer) (Decides-int_eq a.width b.width))
+
+abbrev same_widths : List RuleWidth → List RuleWidth → Bool
+same_widths xs ys = pointwise width_eq.ghosts.eq xs ys
+
+widths_decide : (xs ys : List RuleWidth) → Decides (same_widths xs ys) (xs ≡ ys)
+widths_decide xs ys = slice_eq-Decides width_decides xs ys (same_widths xs ys) refl
+
+abbrev pub same_rule : RuleModel → RuleModel → Bool
+same_rule a b = bytes_eq a.name b.name && same_widths a.widths b.widths
+
+pub rule_decides : (a b : RuleModel) → Decides (same_rule a b) (a ≡ b)
+rule_decides a b =
+    Decides-like _
+    (λ p. λ i. record { name = p.0 i; widths = p.1 i })
+    (λ e. (ap (λ (r : RuleModel). r.name) e, ap (λ (r : RuleModel). r.widths) e))
+    (Decides-and _ _ (bytes_eq-Decides a.name b.name) (widths_decide a.widths b.widths))

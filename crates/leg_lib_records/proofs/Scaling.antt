@@ -9,15 +9,17 @@ use Rattle.leg_lib_records.specs.declared.raw.RawKind.{RawKind}
 use Rattle.leg_lib_records.specs.declared.raw.RawKind.TheVariants as raw
 use Rattle.leg_lib_records.specs.declared.raw.RawSite.{RawSite}
 use Rattle.leg_lib_records.specs.declared.raw.RawShape.{RawShape}
+use Rattle.leg_lib_records.specs.declared.raw.RawRuleWidth.{RawRuleWidth}
 use Rattle.leg_lib_records.specs.declared.records.Supply.{Supply}
 use Rattle.leg_lib_records.specs.declared.records.LayerKind.{LayerKind}
 use Rattle.leg_lib_records.specs.declared.records.LayerKind.TheVariants.{Routing, Cut, Other}
 use Rattle.leg_lib_records.specs.declared.records.Layer.{Layer}
 use Rattle.leg_lib_records.specs.declared.records.Site.{Site}
 use Rattle.leg_lib_records.specs.declared.records.Shape.{Shape}
+use Rattle.leg_lib_records.specs.declared.records.RuleWidth.{RuleWidth}
 use Rattle.leg_lib_records.specs.Measure.{ExtentModel}
-use Rattle.leg_lib_records.specs.Records.{RawViaModel, RawPinModel, RawMasterModel, RawLibraryModel, ViaModel, MasterPinModel, MasterModel, LibraryModel}
-use Rattle.leg_lib_records.specs.Scale.{IsLengthAt, IsSizeAt, IsSpotAt, IsRectAt, IsShapeAt, IsEven, IsKindAt, IsLayerAt, IsSiteAt, IsViaAt, IsPinAt, IsMasterAt, OneForOne, IsLibraryAt, no_shift}
+use Rattle.leg_lib_records.specs.Records.{RawViaModel, RawPinModel, RawMasterModel, RawRuleModel, RawLibraryModel, ViaModel, MasterPinModel, MasterModel, RuleModel, LibraryModel}
+use Rattle.leg_lib_records.specs.Scale.{IsLengthAt, IsSizeAt, IsSpotAt, IsRectAt, IsShapeAt, IsEven, IsKindAt, IsLayerAt, IsSiteAt, IsViaAt, IsPinAt, IsMasterAt, IsRuleWidthAt, IsRuleAt, OneForOne, IsLibraryAt, no_shift}
 use Rattle.leg_lib_records.proofs.OneEach.{push_pair}
 
 module _ {X Y : Type 0} (R : X → Y → Type 0) where
@@ -127,6 +129,13 @@ masters_named n [] (x ∷ masters) all = absurd all
 masters_named n (r ∷ raw) [] all = absurd all
 masters_named n (r ∷ raw) (x ∷ masters) all = rw (all.0.name, masters_named n raw masters all.1) refl
 
+pub rules_named : (n : ℕ) (raw : List RawRuleModel) (rules : List RuleModel) → OneForOne (IsRuleAt n) raw rules
+    → map (λ x. x.name) rules ≡ map (λ x. x.name) raw
+rules_named n [] [] all = refl
+rules_named n [] (x ∷ rules) all = absurd all
+rules_named n (r ∷ raw) [] all = absurd all
+rules_named n (r ∷ raw) (x ∷ rules) all = rw (all.0.name, rules_named n raw rules all.1) refl
+
 -- what is read is one thing in database units at most
 one_size : (n : ℕ) (raw : ExtentModel) (a b : ExtentModel) → IsSizeAt n raw a → IsSizeAt n raw b → a ≡ b
 one_size n raw a b p q =
@@ -214,13 +223,27 @@ one_master n raw a b p q =
     (pair_one (IsShapeAt n p.shift) (one_shape n p.shift) raw.obstructions a.obstructions b.obstructions p.obstructions
     (subst (λ s. OneForOne (IsShapeAt n s) raw.obstructions b.obstructions) same q.obstructions))
 
+one_rule_width : (n : ℕ) (raw : RawRuleWidth) (a b : RuleWidth) → IsRuleWidthAt n raw a → IsRuleWidthAt n raw b → a ≡ b
+one_rule_width n raw a b p q =
+    let at : ℕ → ℤ → RuleWidth = λ layer width. record { layer = layer; width = width } in
+    ap (λ v. at v a.width) (p.layer ∙ sym q.layer)
+    ∙ ap (λ v. at b.layer v) (one_length n raw.width a.width b.width p.width q.width)
+
+one_rule : (n : ℕ) (raw : RawRuleModel) (a b : RuleModel) → IsRuleAt n raw a → IsRuleAt n raw b → a ≡ b
+one_rule n raw a b p q =
+    let at : List ℕ → List RuleWidth → RuleModel = λ name widths. record { name = name; widths = widths } in
+    ap (λ v. at v a.widths) (p.name ∙ sym q.name)
+    ∙ ap (λ v. at b.name v) (pair_one (IsRuleWidthAt n) (one_rule_width n) raw.widths a.widths b.widths p.widths q.widths)
+
 -- what is read is one library in database units at most
 pub one_library : (n : ℕ) (raw : RawLibraryModel) (a b : LibraryModel) → IsLibraryAt n raw a → IsLibraryAt n raw b → a ≡ b
 one_library n raw a b p q =
-    let at : ℕ → List Layer → List Site → List ViaModel → List MasterModel → LibraryModel =
-    λ units layers sites vias masters. record { units = units; layers = layers; sites = sites; vias = vias; masters = masters } in
-    ap (λ v. at v a.layers a.sites a.vias a.masters) (p.units ∙ sym q.units)
-    ∙ ap (λ v. at b.units v a.sites a.vias a.masters) (pair_one (IsLayerAt n) (one_layer n) raw.layers a.layers b.layers p.layers q.layers)
-    ∙ ap (λ v. at b.units b.layers v a.vias a.masters) (pair_one (IsSiteAt n) (one_site n) raw.sites a.sites b.sites p.sites q.sites)
-    ∙ ap (λ v. at b.units b.layers b.sites v a.masters) (pair_one (IsViaAt n) (one_via n) raw.vias a.vias b.vias p.vias q.vias)
-    ∙ ap (λ v. at b.units b.layers b.sites b.vias v) (pair_one (IsMasterAt n) (one_master n) raw.masters a.masters b.masters p.masters q.masters)
+    let at : ℕ → List Layer → List Site → List ViaModel → List MasterModel → List RuleModel → LibraryModel =
+    λ units layers sites vias masters rules.
+    record { units = units; layers = layers; sites = sites; vias = vias; masters = masters; rules = rules } in
+    ap (λ v. at v a.layers a.sites a.vias a.masters a.rules) (p.units ∙ sym q.units)
+    ∙ ap (λ v. at b.units v a.sites a.vias a.masters a.rules) (pair_one (IsLayerAt n) (one_layer n) raw.layers a.layers b.layers p.layers q.layers)
+    ∙ ap (λ v. at b.units b.layers v a.vias a.masters a.rules) (pair_one (IsSiteAt n) (one_site n) raw.sites a.sites b.sites p.sites q.sites)
+    ∙ ap (λ v. at b.units b.layers b.sites v a.masters a.rules) (pair_one (IsViaAt n) (one_via n) raw.vias a.vias b.vias p.vias q.vias)
+    ∙ ap (λ v. at b.units b.layers b.sites b.vias v a.rules) (pair_one (IsMasterAt n) (one_master n) raw.masters a.masters b.masters p.masters q.masters)
+    ∙ ap (λ v. at b.units b.layers b.sites b.vias b.masters v) (pair_one (IsRuleAt n) (one_rule n) raw.rules a.rules b.rules p.rules q.rules)

@@ -10,18 +10,20 @@ use Rattle.leg_lib_records.specs.declared.raw.RawKind.TheVariants as raw
 use Rattle.leg_lib_records.specs.declared.raw.RawLayer.{RawLayer}
 use Rattle.leg_lib_records.specs.declared.raw.RawSite.{RawSite}
 use Rattle.leg_lib_records.specs.declared.raw.RawShape.{RawShape}
+use Rattle.leg_lib_records.specs.declared.raw.RawRuleWidth.{RawRuleWidth}
 use Rattle.leg_lib_records.specs.declared.records.LayerKind.{LayerKind}
 use Rattle.leg_lib_records.specs.declared.records.LayerKind.TheVariants.{Routing, Cut, Other}
 use Rattle.leg_lib_records.specs.declared.records.Layer.{Layer}
 use Rattle.leg_lib_records.specs.declared.records.Site.{Site}
 use Rattle.leg_lib_records.specs.declared.records.Shape.{Shape}
+use Rattle.leg_lib_records.specs.declared.records.RuleWidth.{RuleWidth}
 use Rattle.leg_lib_records.specs.Measure.{ExtentModel, HasArea, IsExtent}
-use Rattle.leg_lib_records.specs.Records.{RawLibraryModel, RawViaModel, RawMasterModel, ViaModel, MasterModel, LibraryModel}
-use Rattle.leg_lib_records.specs.Scale.{IsLengthAt, IsSizeAt, IsSpotAt, IsShapeAt, IsKindAt, IsLayerAt, IsSiteAt, IsViaAt, IsPinAt, IsMasterAt, OneForOne, IsLibraryAt, no_shift}
+use Rattle.leg_lib_records.specs.Records.{RawLibraryModel, RawViaModel, RawMasterModel, RawRuleModel, ViaModel, MasterModel, RuleModel, LibraryModel}
+use Rattle.leg_lib_records.specs.Scale.{IsLengthAt, IsSizeAt, IsSpotAt, IsShapeAt, IsKindAt, IsLayerAt, IsSiteAt, IsViaAt, IsPinAt, IsMasterAt, IsRuleWidthAt, IsRuleAt, OneForOne, IsLibraryAt, no_shift}
 use Rattle.leg_lib_records.specs.LibraryNames.{AreNames}
-use Rattle.leg_lib_records.specs.Sound.{HasRawWidth, IsSoundRawLayer, IsSoundRaw, HasWidth, IsSoundLayer, AreWithin, AreShapesWithin, IsSoundVia, IsSoundMaster, IsSound}
+use Rattle.leg_lib_records.specs.Sound.{HasRawWidth, IsSoundRawLayer, IsSoundRawRule, IsSoundRaw, HasWidth, IsSoundLayer, AreWithin, AreShapesWithin, IsSoundVia, IsSoundMaster, IsRuleWidth, IsSoundRule, IsSound}
 use Rattle.leg_lib_records.proofs.References.{refers_at}
-use Rattle.leg_lib_records.proofs.Scaling.{layers_named, sites_named, vias_named, masters_named}
+use Rattle.leg_lib_records.proofs.Scaling.{layers_named, sites_named, vias_named, masters_named, rules_named}
 
 wide_at : (n : ℕ) (m u : ℤ) → 1 ≤ n → pos 0 <ℤ m → IsLengthAt n m u → pos 0 <ℤ u
 wide_at n m u some wide at =
@@ -121,6 +123,25 @@ sites_at n (r ∷ raw) (site ∷ sites) some sound at =
     All-cons (λ s. IsExtent s.size) site sites (extent_at n r.size site.size some first at.0.size)
     (sites_at n raw sites some (All-tail (λ s. HasArea s.size) r raw sound) at.1)
 
+rule_widths_at : (n : ℕ) (raw : List RawRuleWidth) (widths : List RuleWidth) → 1 ≤ n → All (λ w. pos 0 <ℤ w.width) raw
+    → OneForOne (IsRuleWidthAt n) raw widths → All (λ w. IsRuleWidth w.width) widths
+rule_widths_at n [] [] some sound at = All-nil (λ w. IsRuleWidth w.width)
+rule_widths_at n [] (width ∷ widths) some sound at = absurd at
+rule_widths_at n (r ∷ raw) [] some sound at = absurd at
+rule_widths_at n (r ∷ raw) (width ∷ widths) some sound at =
+    let first : pos 0 <ℤ r.width = All-head (λ w. pos 0 <ℤ w.width) r raw sound in
+    let here : IsRuleWidth width.width = record { above = wide_at n r.width width.width some first at.0.width; within = at.0.width.within } in
+    All-cons (λ w. IsRuleWidth w.width) width widths here
+    (rule_widths_at n raw widths some (All-tail (λ w. pos 0 <ℤ w.width) r raw sound) at.1)
+
+rules_at : (n : ℕ) (raw : List RawRuleModel) (rules : List RuleModel) → 1 ≤ n → All IsSoundRawRule raw → OneForOne (IsRuleAt n) raw rules → All IsSoundRule rules
+rules_at n [] [] some sound at = All-nil IsSoundRule
+rules_at n [] (rule ∷ rules) some sound at = absurd at
+rules_at n (r ∷ raw) [] some sound at = absurd at
+rules_at n (r ∷ raw) (rule ∷ rules) some sound at =
+    All-cons IsSoundRule rule rules (rule_widths_at n r.widths rule.widths some (All-head IsSoundRawRule r raw sound) at.0.widths)
+    (rules_at n raw rules some (All-tail IsSoundRawRule r raw sound) at.1)
+
 -- A sound library is sound in database units.
 pub sound_at : (n : ℕ) (raw : RawLibraryModel) (library : LibraryModel) → 1 ≤ n → n ≤ UNITS_LIMIT → IsSoundRaw raw → IsLibraryAt n raw library → IsSound library
 sound_at n raw library some most sound at = record {
@@ -130,11 +151,13 @@ sound_at n raw library some most sound at = record {
   sites = sites_at n raw.sites library.sites some sound.sites at.sites;
   vias = all_at (IsViaAt n) IsSoundVia (via_at n) raw.vias library.vias at.vias;
   masters = all_at (IsMasterAt n) IsSoundMaster (master_at n) raw.masters library.masters at.masters;
+  rules = rules_at n raw.rules library.rules some sound.rules at.rules;
   names = record {
     layers = subst AreNames (sym (layers_named n raw.layers library.layers at.layers)) sound.names.layers;
     sites = subst AreNames (sym (sites_named n raw.sites library.sites at.sites)) sound.names.sites;
     vias = subst AreNames (sym (vias_named n raw.vias library.vias at.vias)) sound.names.vias;
     masters = subst AreNames (sym (masters_named n raw.masters library.masters at.masters)) sound.names.masters;
+    rules = subst AreNames (sym (rules_named n raw.rules library.rules at.rules)) sound.names.rules;
   };
   references = refers_at n raw library some sound.references at;
 }

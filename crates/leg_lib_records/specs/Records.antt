@@ -6,10 +6,12 @@ use Rattle.leg_lib_records.specs.Measure.{ExtentModel}
 use Rattle.leg_lib_records.specs.declared.raw.RawLayer.{RawLayer}
 use Rattle.leg_lib_records.specs.declared.raw.RawSite.{RawSite}
 use Rattle.leg_lib_records.specs.declared.raw.RawShape.{RawShape}
+use Rattle.leg_lib_records.specs.declared.raw.RawRuleWidth.{RawRuleWidth}
 use Rattle.leg_lib_records.specs.declared.records.Supply.{Supply}
 use Rattle.leg_lib_records.specs.declared.records.Layer.{Layer}
 use Rattle.leg_lib_records.specs.declared.records.Site.{Site}
 use Rattle.leg_lib_records.specs.declared.records.Shape.{Shape}
+use Rattle.leg_lib_records.specs.declared.records.RuleWidth.{RuleWidth}
 
 -- a via: `good` is whether a wire may name it, and one that isn't good has no shapes
 pub record RawViaModel : Type 0 where
@@ -34,15 +36,21 @@ pub record RawMasterModel : Type 0 where
   pub pins : List RawPinModel
   pub obstructions : List RawShape
 
+-- a nondefault rule: the widths of wires under it, on the layers that it names (LEF/DEF 5.8, "Nondefault Rule")
+pub record RawRuleModel : Type 0 where
+  pub name : List ℕ
+  pub widths : List RawRuleWidth
+
 -- a library as it is read, in millionths of a micron
 pub record RawLibraryModel : Type 0 where
   pub layers : List RawLayer
   pub sites : List RawSite
   pub vias : List RawViaModel
   pub masters : List RawMasterModel
+  pub rules : List RawRuleModel
 
 abbrev pub empty_library : RawLibraryModel
-empty_library = record { layers = []; sites = []; vias = []; masters = [] }
+empty_library = record { layers = []; sites = []; vias = []; masters = []; rules = [] }
 
 pub record ViaModel : Type 0 where
   pub name : List ℕ
@@ -64,6 +72,10 @@ pub record MasterModel : Type 0 where
   pub pins : List MasterPinModel
   pub obstructions : List Shape
 
+pub record RuleModel : Type 0 where
+  pub name : List ℕ
+  pub widths : List RuleWidth
+
 -- a library at this many database units a micron
 pub record LibraryModel : Type 0 where
   pub units : ℕ
@@ -71,6 +83,7 @@ pub record LibraryModel : Type 0 where
   pub sites : List Site
   pub vias : List ViaModel
   pub masters : List MasterModel
+  pub rules : List RuleModel
 
 abbrev pub raw_layer_names : RawLibraryModel → List (List ℕ)
 raw_layer_names library = map (λ l. l.name) library.layers
@@ -84,6 +97,9 @@ raw_via_names library = map (λ v. v.name) library.vias
 abbrev pub raw_master_names : RawLibraryModel → List (List ℕ)
 raw_master_names library = map (λ m. m.name) library.masters
 
+abbrev pub raw_rule_names : RawLibraryModel → List (List ℕ)
+raw_rule_names library = map (λ r. r.name) library.rules
+
 abbrev pub layer_names : LibraryModel → List (List ℕ)
 layer_names library = map (λ l. l.name) library.layers
 
@@ -95,3 +111,6 @@ via_names library = map (λ v. v.name) library.vias
 
 abbrev pub master_names : LibraryModel → List (List ℕ)
 master_names library = map (λ m. m.name) library.masters
+
+abbrev pub rule_names : LibraryModel → List (List ℕ)
+rule_names library = map (λ r. r.name) library.rules

@@ -1,11 +1,11 @@
--- What the records of a library refer to: shapes are on layers that it has, a macro has a site that it has, and a via is
--- good if and only if its name and its shapes are those of a good via (lefdef's own rules; LEF/DEF 5.8, "Via" and "Macro").
+-- What the records of a library refer to: shapes and the widths of rules are on layers that it has, a macro has a site that
+-- it has, and a via is good if and only if its name and its shapes are those of a good via (lefdef's own rules; LEF/DEF 5.8, "Via" and "Macro").
 use Rattle.std.specs.Prelude.{◌≡◌, ℕ, ◌<◌, List, length, map, All, IfSome}
 use Rattle.leg_lib_records.specs.declared.raw.RawLayer.{RawLayer}
 use Rattle.leg_lib_records.specs.declared.raw.RawSite.{RawSite}
 use Rattle.leg_lib_records.specs.declared.raw.RawShape.{RawShape}
 use Rattle.leg_lib_records.specs.declared.records.Shape.{Shape}
-use Rattle.leg_lib_records.specs.Records.{RawViaModel, RawMasterModel, RawLibraryModel, ViaModel, MasterModel, LibraryModel}
+use Rattle.leg_lib_records.specs.Records.{RawViaModel, RawMasterModel, RawRuleModel, RawLibraryModel, ViaModel, MasterModel, RuleModel, LibraryModel}
 use Rattle.leg_lib_records.specs.GoodVia.{is_raw_good_via, is_good_via}
 use Rattle.leg_lib_records.specs.LibraryNames.{AreNames}
 
@@ -28,10 +28,15 @@ pub record IsRawMasterOf (layers : List RawLayer) (sites : List RawSite) (master
   pub pins : All (λ pin. AreRawShapesOn (length layers) pin.shapes) master.pins
   pub obstructions : AreRawShapesOn (length layers) master.obstructions
 
--- the vias and macros of a library as texts write it
+-- each width of a rule is that of a layer in a library with these layers
+abbrev pub IsRawRuleOf : List RawLayer → RawRuleModel → Type 0
+IsRawRuleOf layers rule = All (λ width. width.layer < length layers) rule.widths
+
+-- the vias, macros and rules of a library as texts write it
 pub record HasRawReferences (library : RawLibraryModel) : Type 0 where
   pub vias : All (IsRawViaOf library.layers) library.vias
   pub masters : All (IsRawMasterOf library.layers library.sites) library.masters
+  pub rules : All (IsRawRuleOf library.layers) library.rules
 
 -- a via of a library in database units
 pub record IsViaOf (library : LibraryModel) (via : ViaModel) : Type 0 where
@@ -45,7 +50,12 @@ pub record IsMasterOf (library : LibraryModel) (master : MasterModel) : Type 0 w
   pub pins : All (λ pin. AreShapesOn (length library.layers) pin.shapes) master.pins
   pub obstructions : AreShapesOn (length library.layers) master.obstructions
 
--- the vias and macros of a library in database units
+-- each width of a rule is that of a layer of the library
+abbrev pub IsRuleOf : LibraryModel → RuleModel → Type 0
+IsRuleOf library rule = All (λ width. width.layer < length library.layers) rule.widths
+
+-- the vias, macros and rules of a library in database units
 pub record HasReferences (library : LibraryModel) : Type 0 where
   pub vias : All (IsViaOf library) library.vias
   pub masters : All (IsMasterOf library) library.masters
+  pub rules : All (IsRuleOf library) library.rules

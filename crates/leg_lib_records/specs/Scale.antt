@@ -8,13 +8,15 @@ use Rattle.leg_lib_records.specs.declared.raw.RawKind.TheVariants as raw
 use Rattle.leg_lib_records.specs.declared.raw.RawLayer.{RawLayer}
 use Rattle.leg_lib_records.specs.declared.raw.RawSite.{RawSite}
 use Rattle.leg_lib_records.specs.declared.raw.RawShape.{RawShape}
+use Rattle.leg_lib_records.specs.declared.raw.RawRuleWidth.{RawRuleWidth}
 use Rattle.leg_lib_records.specs.declared.records.LayerKind.{LayerKind}
 use Rattle.leg_lib_records.specs.declared.records.LayerKind.TheVariants.{Routing, Cut, Other}
 use Rattle.leg_lib_records.specs.declared.records.Layer.{Layer}
 use Rattle.leg_lib_records.specs.declared.records.Site.{Site}
 use Rattle.leg_lib_records.specs.declared.records.Shape.{Shape}
+use Rattle.leg_lib_records.specs.declared.records.RuleWidth.{RuleWidth}
 use Rattle.leg_lib_records.specs.Measure.{ExtentModel}
-use Rattle.leg_lib_records.specs.Records.{RawViaModel, RawPinModel, RawMasterModel, RawLibraryModel, ViaModel, MasterPinModel, MasterModel, LibraryModel}
+use Rattle.leg_lib_records.specs.Records.{RawViaModel, RawPinModel, RawMasterModel, RawRuleModel, RawLibraryModel, ViaModel, MasterPinModel, MasterModel, RuleModel, LibraryModel}
 
 -- u units are m millionths of a micron at n units a micron, and within the limit
 pub record IsLengthAt (n : ℕ) (m u : ℤ) : Type 0 where
@@ -91,9 +93,19 @@ pub record IsMasterAt (n : ℕ) (raw : RawMasterModel) (master : MasterModel) : 
   pub pins : OneForOne (IsPinAt n shift) raw.pins master.pins
   pub obstructions : OneForOne (IsShapeAt n shift) raw.obstructions master.obstructions
 
+-- a width of a rule may be odd
+pub record IsRuleWidthAt (n : ℕ) (raw : RawRuleWidth) (scaled : RuleWidth) : Type 0 where
+  pub layer : scaled.layer ≡ raw.layer
+  pub width : IsLengthAt n raw.width scaled.width
+
+pub record IsRuleAt (n : ℕ) (raw : RawRuleModel) (rule : RuleModel) : Type 0 where
+  pub name : rule.name ≡ raw.name
+  pub widths : OneForOne (IsRuleWidthAt n) raw.widths rule.widths
+
 pub record IsLibraryAt (n : ℕ) (raw : RawLibraryModel) (library : LibraryModel) : Type 0 where
   pub units : library.units ≡ n
   pub layers : OneForOne (IsLayerAt n) raw.layers library.layers
   pub sites : OneForOne (IsSiteAt n) raw.sites library.sites
   pub vias : OneForOne (IsViaAt n) raw.vias library.vias
   pub masters : OneForOne (IsMasterAt n) raw.masters library.masters
+  pub rules : OneForOne (IsRuleAt n) raw.rules library.rules

@@ -12,7 +12,7 @@ use Rattle.leg_lib_records.specs.declared.records.LayerKind.TheVariants.{Routing
 use Rattle.leg_lib_records.specs.declared.records.Layer.{Layer}
 use Rattle.leg_lib_records.specs.declared.records.Shape.{Shape}
 use Rattle.leg_lib_records.specs.Measure.{HasArea, IsExtent}
-use Rattle.leg_lib_records.specs.Records.{RawLibraryModel, ViaModel, MasterModel, LibraryModel}
+use Rattle.leg_lib_records.specs.Records.{RawRuleModel, RawLibraryModel, ViaModel, MasterModel, RuleModel, LibraryModel}
 use Rattle.leg_lib_records.specs.LibraryNames.{HasRawNames, HasNames}
 use Rattle.leg_lib_records.specs.References.{HasRawReferences, HasReferences}
 use Rattle.leg_lib_records.specs.Scale.{IsEven}
@@ -28,10 +28,15 @@ pub record IsSoundRawLayer (layer : RawLayer) : Type 0 where
   pub width : HasRawWidth layer.kind
   pub spacing : pos 0 ≤ℤ layer.spacing
 
+-- the widths of a rule as texts write it
+abbrev pub IsSoundRawRule : RawRuleModel → Type 0
+IsSoundRawRule rule = All (λ width. pos 0 <ℤ width.width) rule.widths
+
 -- a library as texts write it
 pub record IsSoundRaw (library : RawLibraryModel) : Type 0 where
   pub layers : All IsSoundRawLayer library.layers
   pub sites : All (λ site. HasArea site.size) library.sites
+  pub rules : All IsSoundRawRule library.rules
   pub names : HasRawNames library
   pub references : HasRawReferences library
 
@@ -73,6 +78,14 @@ pub record IsSoundMaster (master : MasterModel) : Type 0 where
   pub pins : All (λ pin. AreShapesWithin (2 * NUMBER_LIMIT) pin.shapes) master.pins
   pub obstructions : AreShapesWithin (2 * NUMBER_LIMIT) master.obstructions
 
+-- a width that a rule gives, which may be odd
+pub record IsRuleWidth (width : ℤ) : Type 0 where
+  pub above : pos 0 <ℤ width
+  pub within : IsNumber width
+
+abbrev pub IsSoundRule : RuleModel → Type 0
+IsSoundRule rule = All (λ width. IsRuleWidth width.width) rule.widths
+
 -- a library in database units, of which a micron has 1 at least and the limit at most
 pub record IsSound (library : LibraryModel) : Type 0 where
   pub least_units : 1 ≤ library.units
@@ -81,5 +94,6 @@ pub record IsSound (library : LibraryModel) : Type 0 where
   pub sites : All (λ site. IsExtent site.size) library.sites
   pub vias : All IsSoundVia library.vias
   pub masters : All IsSoundMaster library.masters
+  pub rules : All IsSoundRule library.rules
   pub names : HasNames library
   pub references : HasReferences library

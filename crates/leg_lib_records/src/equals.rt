@@ -15,6 +15,7 @@ impl<'a, A: Allocator + Copy> Library<'a, A> {
             && self.has_sites(other)
             && self.has_vias(other)
             && self.has_masters(other)
+            && self.has_rules(other)
     }
 
     /// Whether a micron has this many database units.
@@ -50,5 +51,12 @@ impl<'a, A: Allocator + Copy> Library<'a, A> {
         ensures { IsTrue result ↔ (self.now.masters ≡ other.now.masters) }
     {
         *self.masters.as_vec() == *other.masters.as_vec()
+    }
+
+    /// Whether the nondefault rules are those of the other library.
+    fn has_rules(&self, other: &Library<'_, A>) -> bool
+        ensures { IsTrue result ↔ (self.now.rules ≡ other.now.rules) }
+    {
+        *self.rules.as_vec() == *other.rules.as_vec()
     }
 }

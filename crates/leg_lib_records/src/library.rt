@@ -2,18 +2,18 @@
 
 ghost use Rattle.std.specs.Prelude.{◌≡◌};
 ghost use Rattle.leg_lex.specs.NameLookup.{place_of};
-ghost use Rattle.leg_lib_records.specs.Records.{layer_names, site_names, via_names, master_names};
+ghost use Rattle.leg_lib_records.specs.Records.{layer_names, site_names, via_names, master_names, rule_names};
 ghost use Rattle.leg_lib_records.specs.Sound.{IsSound};
 
-use crate::records::{Layer, Master, Site, Via};
+use crate::records::{Layer, Master, Rule, Site, Via};
 use leg_lex::NamedList;
 use std::alloc::Allocator;
 use std::marker::Model;
 
-/// A library in database units, in file order. Of the layers, the sites, the vias and the masters no two
-/// have one name, and neither have the pins of a master. Widths, spacings and the sides of shapes are within the limit of
-/// numbers, twice that in masters; widths are even and above 0, and no spacing is below 0. Shapes are on layers of
-/// the library, a master's site is one of its sites, and a via is marked good exactly where it is.
+/// A library in database units, in file order. Of the layers, the sites, the vias, the masters and the nondefault rules no
+/// two have one name, and neither have the pins of a master. Widths, spacings and the sides of shapes are within the limit of
+/// numbers, twice that in masters; widths are above 0, those of layers even, and no spacing is below 0. Shapes and the widths
+/// of rules are on layers of the library, a master's site is one of its sites, and a via is marked good exactly where it is.
 #[derive(Drop)]
 pub struct Library<'a, A: Allocator + Copy> {
     pub(crate) units: u32,
@@ -21,6 +21,7 @@ pub struct Library<'a, A: Allocator + Copy> {
     pub(crate) sites: NamedList<'a, Site<'a>, A>,
     pub(crate) vias: NamedList<'a, Via<'a, A>, A>,
     pub(crate) masters: NamedList<'a, Master<'a, A>, A>,
+    pub(crate) rules: NamedList<'a, Rule<'a, A>, A>,
 }
 
 impl<'a, A: Allocator + Copy> Model for Library<'a, A> {
@@ -29,9 +30,9 @@ impl<'a, A: Allocator + Copy> Model for Library<'a, A> {
 
     ghost Value = { LibraryModel };
 
-    ghost view = { λ l. record { units = l.units; layers = l.layers; sites = l.sites; vias = l.vias; masters = l.masters } };
+    ghost view = { λ l. record { units = l.units; layers = l.layers; sites = l.sites; vias = l.vias; masters = l.masters; rules = l.rules } };
 
-    ghost invariant = { λ l. IsSound (record { units = l.units; layers = l.layers; sites = l.sites; vias = l.vias; masters = l.masters }) };
+    ghost invariant = { λ l. IsSound (record { units = l.units; layers = l.layers; sites = l.sites; vias = l.vias; masters = l.masters; rules = l.rules }) };
 }
 
 impl<'a, A: Allocator + Copy> Library<'a, A> {
@@ -73,6 +74,14 @@ impl<'a, A: Allocator + Copy> Library<'a, A> {
         self.masters.as_slice()
     }
 
+    /// The nondefault rules, in file order.
+    pub fn rules(&self) -> &[Rule<'a, A>]
+        ensures is { result.now ≡ self.now.rules }
+        ensures proper { IsSound self.now }
+    {
+        self.rules.as_slice()
+    }
+
     /// The number of the layer of this name, if there is one.
     pub fn layer_named(&self, name: &[u8]) -> Option<usize>
         ensures { result ≡ place_of name.now (layer_names self.now) }
@@ -99,5 +108,12 @@ impl<'a, A: Allocator + Copy> Library<'a, A> {
         ensures { result ≡ place_of name.now (master_names self.now) }
     {
         self.masters.place_of(name)
+    }
+
+    /// The number of the nondefault rule of this name, if there is one.
+    pub fn rule_named(&self, name: &[u8]) -> Option<usize>
+        ensures { result ≡ place_of name.now (rule_names self.now) }
+    {
+        self.rules.place_of(name)
     }
 }

@@ -106,6 +106,29 @@ impl<'a, A: Allocator> Model for RawMaster<'a, A> {
     } };
 }
 
+/// The width of wires on a layer, which is given by its number.
+#[derive(Clone, Copy, PartialEq, Eq, Debug)]
+pub struct RawRuleWidth {
+    pub layer: usize,
+    pub width: Micron,
+}
+
+/// A nondefault rule (LEF/DEF 5.8, "Nondefault Rule"): the widths of the wires of nets under it. On a layer that it doesn't name,
+/// wires have the layer's width.
+#[derive(Drop)]
+pub struct RawRule<'a, A: Allocator> {
+    pub name: Name<'a>,
+    pub widths: Items<RawRuleWidth, A>,
+}
+
+impl<'a, A: Allocator> Model for RawRule<'a, A> {
+    ghost use Rattle.leg_lib_records.specs.Records.{RawRuleModel};
+
+    ghost Value = { RawRuleModel };
+
+    ghost view = { λ r. record { name = r.name; widths = r.widths } };
+}
+
 impl Named for RawLayer<'_> {
     ghost name_of = { λ x. x.name };
 
@@ -137,6 +160,16 @@ impl<A: Allocator> Named for RawVia<'_, A> {
 }
 
 impl<A: Allocator> Named for RawMaster<'_, A> {
+    ghost name_of = { λ x. x.name };
+
+    ghost fits = { λ n. Unit {0} };
+
+    ghost none_fits = { tt };
+
+    ghost fewer_fit = { λ m n less some. tt };
+}
+
+impl<A: Allocator> Named for RawRule<'_, A> {
     ghost name_of = { λ x. x.name };
 
     ghost fits = { λ n. Unit {0} };

@@ -4,25 +4,26 @@ ghost use Rattle.std.specs.Prelude.{◌≡◌, ◌++◌, ◌∷◌, [], None, Is
 ghost use Rattle.leg_lex.specs.NameLookup.{place_of};
 ghost use Rattle.leg_lex.specs.Words.{is_name};
 ghost use Rattle.leg_lib_records.specs.Measure.{HasArea};
-ghost use Rattle.leg_lib_records.specs.Records.{empty_library, raw_layer_names, raw_site_names, raw_via_names, raw_master_names};
-ghost use Rattle.leg_lib_records.specs.References.{IsRawViaOf, IsRawMasterOf};
-ghost use Rattle.leg_lib_records.specs.Sound.{IsSoundRawLayer, IsSoundRaw};
+ghost use Rattle.leg_lib_records.specs.Records.{empty_library, raw_layer_names, raw_site_names, raw_via_names, raw_master_names, raw_rule_names};
+ghost use Rattle.leg_lib_records.specs.References.{IsRawViaOf, IsRawMasterOf, IsRawRuleOf};
+ghost use Rattle.leg_lib_records.specs.Sound.{IsSoundRawLayer, IsSoundRawRule, IsSoundRaw};
 
-use crate::raw::{RawLayer, RawMaster, RawSite, RawVia};
+use crate::raw::{RawLayer, RawMaster, RawRule, RawSite, RawVia};
 use leg_lex::NamedList;
 use std::alloc::{AllocError, Allocator};
 use std::marker::Model;
 
-/// A library in millionths of a micron, in file order. Of the layers, the sites, the vias and the macros no
-/// two have one name, and neither have the pins of a macro. The width of a routing layer is above 0, and no spacing
-/// is below 0. Shapes are on layers of the library, a macro's site is one of its sites, and a via is marked good
-/// exactly where its name and its shapes are those of a good via.
+/// A library in millionths of a micron, in file order. Of the layers, the sites, the vias, the macros and the nondefault
+/// rules no two have one name, and neither have the pins of a macro. The widths of routing layers and of rules are above 0,
+/// and no spacing is below 0. Shapes and the widths of rules are on layers of the library, a macro's site is one of its sites,
+/// and a via is marked good exactly where its name and its shapes are those of a good via.
 #[derive(Drop)]
 pub struct RawLibrary<'a, A: Allocator + Copy> {
     pub(crate) layers: NamedList<'a, RawLayer<'a>, A>,
     pub(crate) sites: NamedList<'a, RawSite<'a>, A>,
     pub(crate) vias: NamedList<'a, RawVia<'a, A>, A>,
     pub(crate) masters: NamedList<'a, RawMaster<'a, A>, A>,
+    pub(crate) rules: NamedList<'a, RawRule<'a, A>, A>,
 }
 
 impl<'a, A: Allocator + Copy> Model for RawLibrary<'a, A> {
@@ -31,9 +32,9 @@ impl<'a, A: Allocator + Copy> Model for RawLibrary<'a, A> {
 
     ghost Value = { RawLibraryModel };
 
-    ghost view = { λ l. record { layers = l.layers; sites = l.sites; vias = l.vias; masters = l.masters } };
+    ghost view = { λ l. record { layers = l.layers; sites = l.sites; vias = l.vias; masters = l.masters; rules = l.rules } };
 
-    ghost invariant = { λ l. IsSoundRaw (record { layers = l.layers; sites = l.sites; vias = l.vias; masters = l.masters }) };
+    ghost invariant = { λ l. IsSoundRaw (record { layers = l.layers; sites = l.sites; vias = l.vias; masters = l.masters; rules = l.rules }) };
 }
 
 impl<'a, A: Allocator + Copy> RawLibrary<'a, A> {
@@ -46,6 +47,7 @@ impl<'a, A: Allocator + Copy> RawLibrary<'a, A> {
             sites: NamedList::new(alloc),
             vias: NamedList::new(alloc),
             masters: NamedList::new(alloc),
+            rules: NamedList::new(alloc),
         }
     }
 
@@ -78,6 +80,13 @@ impl<'a, A: Allocator + Copy> RawLibrary<'a, A> {
         self.masters.as_slice()
     }
 
+    /// The nondefault rules, in file order.
+    pub fn rules(&self) -> &[RawRule<'a, A>]
+        ensures { result.now ≡ self.now.rules }
+    {
+        self.rules.as_slice()
+    }
+
     /// The number of the layer of this name.
     pub fn layer_named(&self, name: &[u8]) -> Option<usize>
         ensures { result ≡ place_of name.now (raw_layer_names self.now) }
@@ -104,6 +113,13 @@ impl<'a, A: Allocator + Copy> RawLibrary<'a, A> {
         ensures { result ≡ place_of name.now (raw_master_names self.now) }
     {
         self.masters.place_of(name)
+    }
+
+    /// The number of the nondefault rule of this name.
+    pub fn rule_named(&self, name: &[u8]) -> Option<usize>
+        ensures { result ≡ place_of name.now (raw_rule_names self.now) }
+    {
+        self.rules.place_of(name)
     }
 
     /// Adds a layer whose name is new. If an allocation fails, nothing changes.
@@ -154,5 +170,19 @@ impl<'a, A: Allocator + Copy> RawLibrary<'a, A> {
         ensures unchanged { OnErr result (self.new ≡ self.old) }
     {
         self.masters.push(master.name.bytes(), master)
+    }
+
+    /// Adds a nondefault rule whose name is new, and whose widths are above 0 and those of layers of the library. If an allocation
+    /// fails, nothing changes.
+    #[tactic(auto, using(crate::proofs::SoundRaw::sound_with_rule))]
+    pub fn push_rule(&mut self, rule: RawRule<'a, A>) -> Result<(), AllocError>
+        requires is_new { place_of rule.name (raw_rule_names self.old) ≡ None }
+        requires named { IsTrue (is_name rule.name) }
+        requires sound { IsSoundRawRule rule }
+        requires refers { IsRawRuleOf self.old.layers rule }
+        ensures pushed { OnOk result (self.new ≡ record self.old { rules = self.old.rules ++ rule.entry ∷ [] }) }
+        ensures unchanged { OnErr result (self.new ≡ self.old) }
+    {
+        self.rules.push(rule.name.bytes(), rule)
     }
 }

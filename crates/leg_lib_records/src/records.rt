@@ -137,6 +137,32 @@ impl<'a, A: Allocator> Model for Master<'a, A> {
     ghost inverse = { λ s. record { name = s.name; size = s.size; y_symmetric = s.y_symmetric; site = s.site; pins = s.pins; obstructions = s.obstructions } };
 }
 
+/// The width of wires on a layer, which is given by its number. It may be odd.
+#[derive(Clone, Copy, PartialEq, Eq, Debug)]
+pub struct RuleWidth {
+    pub layer: usize,
+    pub width: i64,
+}
+
+/// A nondefault rule (LEF/DEF 5.8, "Nondefault Rule"): the widths of the wires of nets under it. On a layer that it doesn't name,
+/// wires have the layer's width.
+#[derive(Drop)]
+#[derive_where(PartialEq)]
+pub struct Rule<'a, A: Allocator> {
+    pub name: Name<'a>,
+    pub widths: Items<RuleWidth, A>,
+}
+
+impl<'a, A: Allocator> Model for Rule<'a, A> {
+    ghost use Rattle.leg_lib_records.specs.Records.{RuleModel};
+
+    ghost Value = { RuleModel };
+
+    ghost view = { λ r. record { name = r.name; widths = r.widths } };
+
+    ghost inverse = { λ s. record { name = s.name; widths = s.widths } };
+}
+
 impl Named for Layer<'_> {
     ghost name_of = { λ x. x.name };
 
@@ -168,6 +194,16 @@ impl<A: Allocator> Named for Via<'_, A> {
 }
 
 impl<A: Allocator> Named for Master<'_, A> {
+    ghost name_of = { λ x. x.name };
+
+    ghost fits = { λ n. Unit {0} };
+
+    ghost none_fits = { tt };
+
+    ghost fewer_fit = { λ m n less some. tt };
+}
+
+impl<A: Allocator> Named for Rule<'_, A> {
     ghost name_of = { λ x. x.name };
 
     ghost fits = { λ n. Unit {0} };

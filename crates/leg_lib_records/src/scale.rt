@@ -15,6 +15,7 @@ use crate::raw::{RawKind, RawLayer, RawSite};
 use crate::raw_library::RawLibrary;
 use crate::records::{Layer, LayerKind, Site};
 use crate::scale_fault::{ScaleFault, ScaleKind};
+use crate::scale_rules::rules_at;
 use crate::scale_shapes::{masters_at, vias_at};
 use leg_lex::{Micron, Name, NamedList, NumFault, UNITS_LIMIT};
 use std::alloc::Allocator;
@@ -166,7 +167,7 @@ fn sites_at<'a, A: Allocator + Copy>(
 impl<'a, A: Allocator + Copy> RawLibrary<'a, A> {
     /// The library at `n` database units a micron, with each macro's origin added to its shapes.
     ///
-    /// ExtentModel are looked at in file order: those of layers first, then those of sites, macros and vias.
+    /// ExtentModel are looked at in file order: those of layers first, then those of sites, macros, vias and nondefault rules.
     pub fn at(&self, alloc: A, n: u32) -> Result<Library<'a, A>, ScaleFault<'a>>
         requires above { 1 ≤ n }
         requires within { n ≤ UNITS_LIMIT }
@@ -179,12 +180,14 @@ impl<'a, A: Allocator + Copy> RawLibrary<'a, A> {
         let sites = sites_at(alloc, &self.sites, n)?;
         let masters = masters_at(alloc, &self.masters, n)?;
         let vias = vias_at(alloc, &self.vias, n)?;
+        let rules = rules_at(alloc, &self.rules, n)?;
         Ok(Library {
             units: n,
             layers,
             sites,
             vias,
             masters,
+            rules,
         })
     }
 }

@@ -27,7 +27,7 @@ pub enum ScaleKind {
 /// A length that the DEF's units can't express.
 #[derive(Debug, Drop)]
 pub struct ScaleFault<'a> {
-    /// What has the length: a layer, a site, a macro or a via. It is empty where memory ran out.
+    /// What has the length: a layer, a site, a macro, a via or a nondefault rule. It is empty where memory ran out.
     pub name: Name<'a>,
     /// Why.
     pub kind: ScaleKind,

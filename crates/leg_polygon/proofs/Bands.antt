@@ -3,12 +3,14 @@ use Rattle.std.proofs.Common.{◌≡◌, ℤ, ◌≤ℤ◌, ◌<ℤ◌, List, []
 use Rattle.std.specs.Prelude.{◌⊎◌}
 use Rattle.std.proofs.lemmas.Int.{ints}
 use Rattle.std.proofs.lemmas.List.Elements.{Contains-append_left, Contains-append_right, Contains-append_cases}
+use Rattle.std.proofs.lemmas.List.Kept.{AllPairs-cons}
 use Rattle.leg_lemmas.proofs.Contents.{Contains-nil, Contains-here, Contains-there, Contains-cons_cases, All-from_contains}
 use Rattle.leg_lemmas.proofs.Integers.{cases_lt_z}
 use Rattle.leg_lemmas.proofs.RisingLists.{AllPairs-nil, AllPairs-append_by}
 use Rattle.leg_geom.specs.Plane.{RectModel}
 use Rattle.leg_polygon.specs.Walk.{steps_from}
 use Rattle.leg_polygon.specs.Slab.{bands, runs, ComesBefore}
+use Rattle.leg_polygon.specs.Steps.Sweep.{DoStack}
 use Rattle.leg_polygon.proofs.RisingNumbers.{Rise, above_first, rest_rises}
 use Rattle.leg_polygon.proofs.RunSquares.{run_is, runs_order}
 
@@ -54,6 +56,19 @@ steps_bands y (z ∷ zs) band rise c = elim (Contains-cons_cases (y, z) (steps_f
 pub band_is : (hs : List ℤ) (band : ℤ × ℤ) → Rise hs → Contains (bands hs) band → IsBand hs band
 band_is [] band rise c = absurd (Contains-nil band c)
 band_is (y ∷ ys) band rise c = steps_bands y ys band rise c
+
+-- each band begins above the one before
+steps_stack : (y : ℤ) (ys : List ℤ) → Rise (y ∷ ys) → DoStack (steps_from y ys)
+steps_stack y [] rise = AllPairs-nil (λ a b. a.0 <ℤ b.0)
+steps_stack y (z ∷ zs) rise =
+    let rest : Rise (z ∷ zs) = rest_rises y (z ∷ zs) rise in
+    AllPairs-cons (λ a b. a.0 <ℤ b.0) (y, z) (steps_from z zs)
+    (All-from_contains (λ b. y <ℤ b.0) (steps_from z zs) (λ b c. above_first y (z ∷ zs) b.0 rise (steps_bands z zs b rest c).bottom))
+    (steps_stack z zs rest)
+
+pub bands_stack : (hs : List ℤ) → Rise hs → DoStack (bands hs)
+bands_stack [] rise = AllPairs-nil (λ a b. a.0 <ℤ b.0)
+bands_stack (y ∷ ys) rise = steps_stack y ys rise
 
 -- a band that has the row on a line
 pub record HasRow (list : List (ℤ × ℤ)) (y : ℤ) : Type 0 where

@@ -1,5 +1,5 @@
 -- The rectangles between the edges of a band, taken two by two.
-use Rattle.std.proofs.Common.{◌≡◌, ◌-◌, ◌≤◌, ℤ, pos, List, [], ◌∷◌, ◌++◌, length, take, drop, get_or, ap, ◌∙◌, append_assoc, arith}
+use Rattle.std.proofs.Common.{◌≡◌, ◌-◌, ◌/◌, ◌≤◌, ℤ, pos, List, [], ◌∷◌, ◌++◌, length, take, drop, get_or, refl, ap, ◌∙◌, append_assoc, arith}
 use Rattle.std.proofs.lemmas.List.{take_all}
 use Rattle.leg_geom.specs.Plane.{RectModel}
 use Rattle.leg_polygon.specs.Slab.{runs}
@@ -15,3 +15,9 @@ more_runs done now whole band (west ∷ east ∷ others) long so_far more =
     let all : take (length (west ∷ east ∷ others) - 2) others ≡ others = ap (λ n. take n others) left ∙ take_all (length others) others (omega arith) in
     ap (λ zs. now ++ runs band zs) all ∙ ap (λ rs. rs ++ runs band others) more
     ∙ append_assoc done (record { x1 = west; y1 = band.0; x2 = east; y2 = band.1 } ∷ []) (runs band others) ∙ so_far
+
+-- two edges make a rectangle
+pub length-runs : (band : ℤ × ℤ) (es : List ℤ) → length (runs band es) ≡ length es / 2
+length-runs band [] = refl
+length-runs band (a ∷ []) = refl
+length-runs band (a ∷ b ∷ es) = let rest = length-runs band es in omega (arith, rest)

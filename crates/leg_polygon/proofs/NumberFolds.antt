@@ -81,7 +81,7 @@ module _ (test : ℤ → Bool) where
         ∙ differ_twice (test z) (is_odd test ys)))
   ]
 
-  is_odd-toggles : (zs es : List ℤ) → is_odd test (fold toggle es zs) ≡ differ (is_odd test zs) (is_odd test es)
+  pub is_odd-toggles : (zs es : List ℤ) → is_odd test (fold toggle es zs) ≡ differ (is_odd test zs) (is_odd test es)
   is_odd-toggles [] es = ap (λ b. differ b (is_odd test es)) (sym (is_odd-nil test))
   is_odd-toggles (z ∷ zs) es =
       is_odd-toggles zs (toggle es z) ∙ ap (differ (is_odd test zs)) (is_odd-toggle es z) ∙ differ_ordered (test z) (is_odd test zs) (is_odd test es)

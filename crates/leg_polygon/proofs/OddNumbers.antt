@@ -13,11 +13,11 @@ use Rattle.leg_lemmas.proofs.Contents.{Contains-nil, Contains-here, Contains-the
 use Rattle.leg_lemmas.proofs.Integers.{eq_from_test, lt_test, not_lt_test}
 use Rattle.leg_lemmas.proofs.RisingLists.{AllPairs-head, AllPairs-tail}
 use Rattle.leg_polygon.specs.Slab.{toggle}
-use Rattle.leg_polygon.specs.Inside.{is_odd}
+use Rattle.leg_polygon.specs.Inside.{is_odd, differ}
 use Rattle.leg_polygon.specs.Steps.Numbers.{ListEndsWith}
 use Rattle.leg_polygon.proofs.Parity.{is_odd-nil, is_odd-cons, is_odd-none, is_odd-permutation}
 use Rattle.leg_polygon.proofs.RisingNumbers.{Rise, same_numbers}
-use Rattle.leg_polygon.proofs.NumberFolds.{odd_rises, odd_from, is_odd-odd}
+use Rattle.leg_polygon.proofs.NumberFolds.{odd_rises, odd_from, toggles_rise, is_odd-odd, is_odd-toggles}
 
 -- a number that is not below the others: above all of them, or the last
 pub toggle_end : (es : List ℤ) (z : ℤ) → All (λ a. a <ℤ z) es → toggle es z ≡ es ++ z ∷ []
@@ -128,15 +128,21 @@ odd_contains (y ∷ ys) x odd = elim (cases_Bool (int_eq x y)) [
       Contains-there y ys x (odd_contains ys x rest)
 ]
 
+-- two rising lists are one in which each number stands an odd number of times just if it does in the other
+pub same_odd : (xs ys : List ℤ) → Rise xs → Rise ys → ((z : ℤ) → is_odd (int_eq z) xs ≡ is_odd (int_eq z) ys) → xs ≡ ys
+same_odd xs ys rise_x rise_y agree =
+    same_numbers xs ys rise_x rise_y (λ z c. odd_contains ys z (sym (agree z) ∙ contains_odd xs z rise_x c))
+    (λ z c. odd_contains xs z (agree z ∙ contains_odd ys z rise_y c))
+
 -- the order of the list doesn't matter
 pub odd_in_order : (zs sorted : List ℤ) → IsPermutation zs sorted → fold toggle [] sorted ≡ fold toggle [] zs
 odd_in_order zs sorted moved =
-    same_numbers (fold toggle [] sorted) (fold toggle [] zs) (odd_rises sorted) (odd_rises zs)
-    (carried sorted zs (λ x. is_odd-permutation (int_eq x) zs sorted moved))
-    (carried zs sorted (λ x. sym (is_odd-permutation (int_eq x) zs sorted moved)))
-  where
-    carried : (from to : List ℤ) → ((x : ℤ) → is_odd (int_eq x) from ≡ is_odd (int_eq x) to) → (x : ℤ) → Contains (fold toggle [] from) x
-        → Contains (fold toggle [] to) x
-    carried from to same x c =
-        let odd_from : is_odd (int_eq x) from ≡ true = sym (is_odd-odd (int_eq x) from) ∙ contains_odd (fold toggle [] from) x (odd_rises from) c in
-        odd_contains (fold toggle [] to) x (is_odd-odd (int_eq x) to ∙ sym (same x) ∙ odd_from)
+    same_odd (fold toggle [] sorted) (fold toggle [] zs) (odd_rises sorted) (odd_rises zs)
+    (λ z. is_odd-odd (int_eq z) sorted ∙ is_odd-permutation (int_eq z) zs sorted moved ∙ sym (is_odd-odd (int_eq z) zs))
+
+-- what is put in or taken out, all of it or only what stands an odd number of times
+pub only_odd : (es zs : List ℤ) → Rise es → fold toggle es (fold toggle [] zs) ≡ fold toggle es zs
+only_odd es zs rise =
+    same_odd (fold toggle es (fold toggle [] zs)) (fold toggle es zs) (toggles_rise (fold toggle [] zs) es rise) (toggles_rise zs es rise)
+    (λ z. is_odd-toggles (int_eq z) (fold toggle [] zs) es ∙ ap (λ b. differ b (is_odd (int_eq z) es)) (is_odd-odd (int_eq z) zs)
+    ∙ sym (is_odd-toggles (int_eq z) zs es))

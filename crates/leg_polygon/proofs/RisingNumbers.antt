@@ -48,7 +48,7 @@ compared z y =
     ]
 
 -- the rest of a rising list is above what is below its first number
-above_all : (z y : ℤ) (ys : List ℤ) → z <ℤ y → Rise (y ∷ ys) → All (λ b. z <ℤ b) (y ∷ ys)
+pub above_all : (z y : ℤ) (ys : List ℤ) → z <ℤ y → Rise (y ∷ ys) → All (λ b. z <ℤ b) (y ∷ ys)
 above_all z y ys less rise =
     All-cons (λ b. z <ℤ b) y ys less
     (All-weaker (λ b. y <ℤ b) (λ b. z <ℤ b) (λ b more. lt_trans_z z y b less more) ys (AllPairs-head (λ a b. a <ℤ b) y ys rise))

@@ -16,7 +16,8 @@ module _ (walk : List (PointModel × PointModel)) (line : ℤ) where
   pub edges_rise : Rise (edges walk line)
   edges_rise = odd_rises (map (λ side. side.0.x) (filter (crosses line) walk))
 
-  odd_edges : (test : ℤ → Bool) → is_odd test (edges walk line) ≡ is_odd (λ side. crosses line side && test side.0.x) walk
+  -- the parity of the edges that pass a test is that of the sides
+  pub odd_edges : (test : ℤ → Bool) → is_odd test (edges walk line) ≡ is_odd (λ side. crosses line side && test side.0.x) walk
   odd_edges test =
       is_odd-odd test (map (λ side. side.0.x) (filter (crosses line) walk))
       ∙ is_odd-map test (λ side. side.0.x) (filter (crosses line) walk)

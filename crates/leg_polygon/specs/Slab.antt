@@ -1,5 +1,5 @@
 -- A polygon's slabs: its unit squares as rectangles (lefdef's own rule).
-use Rattle.std.specs.Prelude.{◌≡◌, ◌↔◌, ◌⊎◌, if◌then◌else◌, List, [], ◌∷◌, ℤ, ◌<ℤ◌, ◌≤ℤ◌, int_lt, Option, Some, None, All, AllPairs, Contains, IsTrue, fold, filter, map, flat_map}
+use Rattle.std.specs.Prelude.{◌≡◌, ◌↔◌, ◌⊎◌, if◌then◌else◌, List, [], ◌∷◌, length, ℕ, nat_le, ℤ, ◌<ℤ◌, ◌≤ℤ◌, int_lt, Option, Some, None, All, AllPairs, Contains, IsTrue, fold, filter, map, flat_map}
 use Rattle.std.specs.List.{list_all}
 use Rattle.leg_geom.specs.Plane.{PointModel, RectModel, HasSquare}
 use Rattle.leg_polygon.specs.Walk.{steps_from, corners, walk, is_straight}
@@ -46,6 +46,10 @@ unless_empty (x ∷ xs) = Some (x ∷ xs)
 -- what a polygon denotes: its slabs, and nothing where a side is slanted or no unit square is inside
 abbrev pub slabs_of : List PointModel → Option (List RectModel)
 slabs_of points = if list_all is_straight (walk points) then unless_empty (slabs points) else None
+
+-- what a polygon denotes where it may have at most so many slabs: nothing where it has more
+abbrev pub slabs_within : ℕ → List PointModel → Option (List RectModel)
+slabs_within limit points = if nat_le (length (slabs points)) limit then slabs_of points else None
 
 -- A rectangle that spans, along y, the band between two heights of corners that follow one another, and along x a row of unit
 -- squares.

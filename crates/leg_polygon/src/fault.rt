@@ -12,6 +12,9 @@ pub enum PolygonFault {
     /// A side is neither horizontal nor vertical.
     #[error("a slanted side")]
     Slanted,
+    /// There are more slabs than there may be.
+    #[error("too many slabs")]
+    TooMany,
     /// No unit square is inside.
     #[error("no area")]
     Empty,

@@ -7,12 +7,15 @@
 //! Coordinates are only compared, so they may be any numbers: database units of a DEF, or millionths of a micron of a LEF.
 #![tactic(auto)]
 
+mod band;
 mod fault;
 pub mod laws;
 mod number_list;
 mod shape;
 mod side;
+mod side_end;
 mod slab;
+mod sweep;
 mod walk;
 
 pub use fault::PolygonFault;

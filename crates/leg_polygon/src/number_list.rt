@@ -54,3 +54,36 @@ pub(crate) fn odd_numbers<A: Allocator + Copy>(
     }
     Ok(odd)
 }
+
+/// The numbers that stand in just one of two lists in rising order, in rising order.
+pub(crate) fn in_one_alone<A: Allocator>(
+    alloc: A,
+    some: &[i64],
+    others: &[i64],
+) -> Result<Vec<i64, A>, AllocError>
+    requires rising { AllPairs (λ a b. a <ℤ b) others.now }
+    ensures { IfOk result (λ v. v.items ≡ fold toggle some.now others.now) }
+{
+    let mut alone = Vec::new(alloc);
+    let mut first = some;
+    let mut second = others;
+    'numbers: while let [a, after_a @ ..] = first {
+        if let [b, after_b @ ..] = second {
+            if *a < *b {
+                alone.push(*a)?;
+                first = after_a;
+            } else if *b < *a {
+                alone.push(*b)?;
+                second = after_b;
+            } else {
+                first = after_a;
+                second = after_b;
+            }
+        } else {
+            alone.push(*a)?;
+            first = after_a;
+        }
+    }
+    alone.extend_from_slice(second)?;
+    Ok(alone)
+}

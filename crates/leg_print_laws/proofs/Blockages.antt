@@ -20,8 +20,8 @@ use Rattle.leg_design_records.specs.Records.{DesignModel, BlockageModel, rect_co
 use Rattle.leg_design_records.specs.WellFormedParts.{IsArea, IsLayerOfBlockage, IsBlockage, AreBlockages}
 use Rattle.leg_grammar.specs.declared.profile.Profile.TheVariants.{Narrow}
 use Rattle.leg_grammar.specs.Def.BlockageClause.{blockage_clause}
-use Rattle.leg_grammar.specs.Def.Blockage.{blocked_layer_at, at_no_plus, one_rect, at_semicolon, rects_at, blockage_at, is_kept, is_room_for, blockage_entry, blockages_at}
-use Rattle.leg_design_floorplan.proofs.Blockages.{one_rect_shortens, entry_shortens}
+use Rattle.leg_grammar.specs.Def.Blockage.{blocked_layer_at, at_no_plus, one_rect, one_area, at_semicolon, rects_at, blockage_at, is_kept, is_room_for, blockage_entry, blockages_at}
+use Rattle.leg_design_floorplan.proofs.Blockages.{one_area_shortens, entry_shortens}
 use Rattle.leg_output.specs.Names.{layer_name}
 use Rattle.leg_output.specs.Text.Blockages as printed
 use Rattle.leg_output.specs.Text.Blockages.{blocked_layer_words, rect_words, blockage_words}
@@ -38,24 +38,25 @@ use Rattle.leg_print_laws.proofs.PrintableWords.{said_printable, line_says}
 
 -- rectangles, up to the semicolon
 one_again : (front : List RectModel) (rect : RectModel) (rest : Words) → IsArea rect
-    → one_rect front (rect_words rect ++ rest) ≡ Some (front ++ rect ∷ [], rest)
-unfolding one_rect keyword_at next_at
+    → one_area Narrow front (rect_words rect ++ rest) ≡ Some (front ++ rect ∷ [], rest)
+unfolding one_area one_rect keyword_at next_at
 one_again front rect rest is = rw (corners_again rect rest is) refl
 
 more_again : (first : RectModel) (rects : List RectModel) (rest : Words) → All IsArea (first ∷ rects)
-    → until at_semicolon one_rect (first ∷ []) (flat_map rect_words rects ++ (codes ";" ∷ rest)) ≡ Some (first ∷ rects, codes ";" ∷ rest)
+    → until at_semicolon (one_area Narrow) (first ∷ []) (flat_map rect_words rects ++ (codes ";" ∷ rest)) ≡ Some (first ∷ rects, codes ";" ∷ rest)
 more_again first rects rest each =
-    all_again at_semicolon one_rect rect_words (λ made. made) (codes ";" ∷ rest) one_rect_shortens refl (first ∷ []) rects (λ before x after is. record {
+    all_again at_semicolon (one_area Narrow) rect_words (λ made. made) (codes ";" ∷ rest) (one_area_shortens Narrow) refl (first ∷ []) rects
+    (λ before x after is. record {
       goes = refl;
       read = one_again before x _ (middle IsArea (first ∷ rects) before x after is each);
     })
 
 rects_again : (rects : List RectModel) (rest : Words) → 1 ≤ length rects → All IsArea rects
-    → rects_at (flat_map rect_words rects ++ (codes ";" ∷ rest)) ≡ Some (rects, rest)
+    → rects_at Narrow (flat_map rect_words rects ++ (codes ";" ∷ rest)) ≡ Some (rects, rest)
 unfolding rects_at mark_at next_at
 rects_again [] rest some each = absurd (omega arith)
 rects_again (rect ∷ rects) rest some each =
-    ap rects_at (append_assoc (rect_words rect) (flat_map rect_words rects) (codes ";" ∷ rest))
+    ap (rects_at Narrow) (append_assoc (rect_words rect) (flat_map rect_words rects) (codes ";" ∷ rest))
     ∙ rw (one_again [] rect (flat_map rect_words rects ++ (codes ";" ∷ rest)) (All-head IsArea rect rects each), more_again rect rects rest each) refl
 
 -- no clause is printed

@@ -120,7 +120,7 @@ module _ (design : DesignModel) (sound : IsSound design.library) (vias : AreVias
       (width_words special (pos 0) ++ (point_words at None ++ (word ∷ rest)))))
       named
       ∙ via_path (net_scope Narrow design) refl special two.0 (layer_name design two.0) (path_layer two.0 two.2.low_routes) at number other.0 via.name rest is
-      (record { named = known.name; free = no_wiring_word design.library via known.good; there = known.there; leads = other.1 }) ends no_north
+      (record { named = known.name; free = no_wiring_word design.library via known.good; there = known.there; leads = other.1; upright = refl }) ends no_north
 
   -- the words of any wire
   pub wire_again : (special : Bool) (wire : Wire) → IsWire design.library design.vias special wire → (rest : Words) → at_path_end rest ≡ true

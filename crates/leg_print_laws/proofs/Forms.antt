@@ -42,6 +42,8 @@ header_parts library named with_units with_die divider bus name die = record {
   has = record ((no_parts Narrow library).has) { name = named; units = with_units; die = with_die };
   design = record ((no_parts Narrow library).design) { divider = divider; bus = bus; name = name; die = die };
   dropped = [];
+  rules = [];
+  turned = [];
 }
 
 module _ (library : LibraryModel) where

@@ -22,7 +22,7 @@ use Rattle.leg_design_records.specs.WellFormedNets.{IsWire, IsNet, AreNets, AreI
 use Rattle.leg_grammar.specs.declared.profile.Profile.TheVariants.{Narrow}
 use Rattle.leg_grammar.specs.Def.Guard.{is_over}
 use Rattle.leg_grammar.specs.Def.Terminal.{at_no_terminal}
-use Rattle.leg_grammar.specs.Def.Net.{NetParts, no_net_parts, use_clause, wiring_clause, clause_at, net_clause, net_name_at, net_in, are_too_many, net_entry, nets_at}
+use Rattle.leg_grammar.specs.Def.Net.{NetParts, no_net_parts, use_clause, wiring_clause, clause_at, net_clause, clauses_under, net_name_at, net_in, are_too_many, net_entry, nets_at}
 use Rattle.leg_grammar.specs.Def.Parts.{net_scope}
 use Rattle.leg_design_nets.proofs.NetEntries.{net_entry_shortens}
 use Rattle.leg_output.specs.Text.Clauses.{clause_words, kept_clause}
@@ -48,7 +48,7 @@ pub record HasParts (design : DesignModel) : Type 0 where
   pub pins : ArePins design.library design.pins
 
 abbrev parts_of : Option (List ℕ) → List Wire → NetParts
-parts_of usage wires = record { usage = usage; wires = wires }
+parts_of usage wires = record { usage = usage; wires = wires; rule = None }
 
 module _ (design : DesignModel) (has : HasParts design) (special : Bool) where
   -- what stands behind the terminals: USE and the wires
@@ -72,7 +72,7 @@ module _ (design : DesignModel) (has : HasParts design) (special : Bool) where
     net_in_again : (nets others : List NetModel) → place_of net.name (net_names nets) ≡ None
         → ((other : NetModel) (t : Terminal) → Contains (nets ++ others) other → Contains other.terminals t → Contains net.terminals t → other.name ≡ net.name)
         → net_in (net_scope Narrow design) special others nets (net_said design special net) ≡ Some net
-    unfolding net_in net_name_at mark_at name_at next_at
+    unfolding net_in clauses_under net_name_at mark_at name_at next_at
     net_in_again nets others new own =
         let terminals = flat_map (terminal_words design) net.terminals in
         let usage = clause_words (kept_clause (codes "USE") net.usage) in

@@ -54,7 +54,16 @@ port_of shapes status place = record { shapes = shapes; status = status; place =
 
 -- what pins may name, where this was read before them in the narrow profile
 abbrev scope_of : LibraryModel → DesignModel → NetScopeModel
-scope_of library before = record { profile = Narrow; library = library; vias = before.vias; components = before.components; pins = before.pins }
+scope_of library before = record {
+  profile = Narrow;
+  library = library;
+  vias = before.vias;
+  turned = [];
+  components = before.components;
+  pins = before.pins;
+  rules = [];
+  rule = None;
+}
 
 module _ (design before : DesignModel) (sound : IsSound design.library) (net direction usage : Option (List ℕ)) (done : List PortModel) where
   -- one more clause of a pin

@@ -11,7 +11,7 @@ use Rattle.leg_design_records.specs.Records.{DesignModel, PinModel, BlockageMode
 use Rattle.leg_design_records.specs.WellFormedParts.{AreComponents, AreVias, ArePins, AreBlockages}
 use Rattle.leg_design_records.specs.WellFormedNets.{IsInSomeNet, HasNets}
 use Rattle.leg_grammar.specs.declared.profile.Profile.TheVariants.{Narrow}
-use Rattle.leg_grammar.specs.Def.Parts.{Appearances, DesignParts, vias_form, components_form, pins_form, blockages_form, nets_form, special_form}
+use Rattle.leg_grammar.specs.Def.Parts.{Appearances, DesignParts, vias_form, components_form, pins_form, blockages_form, nets_section_form, nets_form, special_section_form, special_form}
 use Rattle.leg_grammar.specs.Def.Form.{def_form_at, design_of}
 use Rattle.leg_output.specs.Text.Vias.{via_words}
 use Rattle.leg_output.specs.Text.Components.{component_words}
@@ -57,6 +57,8 @@ said_parts design forms vias components pins blockages special nets = record {
   has = forms;
   design = record design { vias = vias; components = components; pins = pins; blockages = blockages; nets = nets; special = special };
   dropped = [];
+  rules = [];
+  turned = [];
 }
 
 module _ (design : DesignModel) (has : HasParts design) where
@@ -106,7 +108,7 @@ module _ (design : DesignModel) (has : HasParts design) where
       → Leads (said_parts design (appearances v c p b false false) design.vias design.components design.pins design.blockages [] [])
       (section_words (net_section true) (net_words design true) special)
       (said_parts design (appearances v c p b (has_some special) false) design.vias design.components design.pins design.blockages special [])
-  unfolding def_form_at special_form
+  unfolding def_form_at special_form special_section_form
   special_lead v c p b [] are one =
       leads_nil (said_parts design (appearances v c p b false false) design.vias design.components design.pins design.blockages [] [])
   special_lead v c p b (net ∷ nets) are one =
@@ -117,7 +119,7 @@ module _ (design : DesignModel) (has : HasParts design) where
       → Leads (said_parts design (appearances v c p b s false) design.vias design.components design.pins design.blockages special [])
       (section_words (net_section false) (net_words design false) nets)
       (said_parts design (appearances v c p b s (has_some nets)) design.vias design.components design.pins design.blockages special nets)
-  unfolding def_form_at nets_form
+  unfolding def_form_at nets_form nets_section_form
   nets_lead v c p b s special [] are one =
       leads_nil (said_parts design (appearances v c p b s false) design.vias design.components design.pins design.blockages special [])
   nets_lead v c p b s special (net ∷ nets) are one =

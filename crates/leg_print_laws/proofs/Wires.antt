@@ -7,12 +7,13 @@ use Rattle.std.proofs.lemmas.Bool.{false≢true}
 use Rattle.std.proofs.lemmas.Bool.Decides.{nat_tests}
 use Rattle.std.proofs.lemmas.Int.{ints}
 use Rattle.leg_lemmas.proofs.Integers.{eq_from_test}
-use Rattle.leg_lex.specs.Words.{Words, is_keyword, is_name, is_plain, is_mark_byte, is_at, next_at, keyword_at, mark_at, name_at}
+use Rattle.leg_lex.specs.Words.{Words, ◌>>=◌, is_keyword, is_name, is_plain, is_mark_byte, is_at, next_at, keyword_at, mark_at, name_at}
 use Rattle.leg_lex.specs.Number.{IsNumber}
 use Rattle.leg_lex.specs.Until.{steps}
 use Rattle.leg_lex.proofs.NameLookup.{same_name}
 use Rattle.leg_print_words.proofs.Numbers.{number_word}
 use Rattle.leg_geom.specs.Plane.{PointModel, RectModel}
+use Rattle.leg_geom.specs.declared.orient.Orient.{Orient}
 use Rattle.leg_geom.proofs.Points.{same_point}
 use Rattle.leg_lib_records.specs.Joins.{is_wiring_word, wiring_words}
 use Rattle.leg_lib_records.specs.Records.{LibraryModel}
@@ -24,10 +25,14 @@ use Rattle.leg_design_records.specs.WellFormedNets.{IsWireWidth, written, IsExte
 use Rattle.leg_grammar.specs.declared.profile.Profile.TheVariants.{Narrow}
 use Rattle.leg_grammar.specs.Def.Count.{count_at}
 use Rattle.leg_grammar.specs.Mask.{past_mask}
+use Rattle.leg_grammar.specs.Def.Placement.{orient_at}
+use Rattle.leg_grammar.specs.Def.Turns.{turn_number}
 use Rattle.leg_grammar.specs.Def.NetScope.{NetScopeModel, via_named}
-use Rattle.leg_grammar.specs.Def.Path.{is_same_spot, extension_at, segment_width, segment_to, across, wires_from}
-use Rattle.leg_grammar.specs.Def.PathItem.{coordinate_at, extension_in_point, point_item, first_point_at, rect_item, past_north, via_at, via_item, other_item, item_without_mask, item_at, one_item, at_path_end}
-use Rattle.leg_grammar.specs.Def.Wiring.{routing_at, past_taper, written_width_at, written_at, path_at}
+use Rattle.leg_grammar.specs.declared.path_width.PathWidth.{PathWidth}
+use Rattle.leg_grammar.specs.declared.path_width.PathWidth.TheVariants.{OfLayers, Written}
+use Rattle.leg_grammar.specs.Def.Path.{is_same_spot, extension_at, segment_width, plain_segment, segment_to, across, wires_from}
+use Rattle.leg_grammar.specs.Def.PathItem.{coordinate_at, extension_in_point, point_item, first_point_at, rect_item, past_north, via_at, via_item, other_item, item_without_mask, item_at, one_item, at_path_end, turn_of_via_at, upright_via_at}
+use Rattle.leg_grammar.specs.Def.Wiring.{routing_at, past_taper, written_width_at, taper_at, path_width_at, path_at}
 use Rattle.leg_output.specs.Text.Points.{spot_words}
 use Rattle.leg_output.specs.Text.Wires.{width_words, point_words, given_extension}
 use Rattle.leg_print_laws.proofs.FreeWords.{first_is_none, others_are_none, no_mark_byte, name_is_word}
@@ -85,15 +90,19 @@ abbrev pub written_as : Bool → ℤ → Option ℤ
 written_as false width = None
 written_as true width = Some width
 
+abbrev width_as : Bool → ℤ → PathWidth
+width_as false width = OfLayers
+width_as true width = Written width
+
 abbrev IsWritten : Bool → ℤ → Type 0
 IsWritten false width = Unit {0}
 IsWritten true width = IsNumber width × (pos 0 ≤ℤ width) × (is_even width ≡ true)
 
-written_again : (special : Bool) (width : ℤ) (rest : Words) → IsWritten special width
-    → written_at special (width_words special width ++ (codes "(" ∷ rest)) ≡ Some (written_as special width, codes "(" ∷ rest)
-unfolding written_at past_taper written_width_at count_at steps
-written_again false width rest is = refl
-written_again true width rest is = rw (number_again width _ is.0, not_below width is.1, is.2) refl
+written_again : (scope : NetScopeModel) → scope.profile ≡ Narrow → (special : Bool) (width : ℤ) (rest : Words) → IsWritten special width
+    → path_width_at scope special (width_words special width ++ (codes "(" ∷ rest)) ≡ Some (width_as special width, codes "(" ∷ rest)
+unfolding path_width_at taper_at past_taper written_width_at count_at steps
+written_again scope narrow false width rest is = rw narrow refl
+written_again scope narrow true width rest is = rw (number_again width _ is.0, not_below width is.1, is.2) refl
 
 -- a step to another point
 other_spot : (p q : PointModel) → p ≢ q → is_same_spot p q ≡ false
@@ -124,6 +133,16 @@ width_written library true layer width is = (is.0, at_least width is.1, is.2) wh
   at_least : (w : ℤ) → pos 0 <ℤ w → pos 0 ≤ℤ w
   at_least w above = omega (arith, ints)
 
+-- the segment of a path of this width
+segment_again : (scope : NetScopeModel) (special : Bool) (layer : ℕ) (width : ℤ) (from to : PointModel) (first next : Option ℤ) → is_straight from to ≡ true
+    → IsWireWidth scope.library special layer width
+    → segment_to scope (width_as special width) layer from first to next
+    ≡ Some (Segment layer from to width (unwrap_or first (default_extension scope.library (written_as special width) layer))
+    (unwrap_or next (default_extension scope.library (written_as special width) layer)))
+unfolding segment_to plain_segment
+segment_again scope false layer width from to first next straight is = rw (straight, width_again scope.library false layer width is) refl
+segment_again scope true layer width from to first next straight is = rw (straight, width_again scope.library true layer width is) refl
+
 -- what is known of a layer that a path is on
 pub record IsPathLayer (library : LibraryModel) (layer : ℕ) (name : List ℕ) : Type 0 where
   pub named : IsLayerName library layer name
@@ -135,6 +154,22 @@ pub record IsViaName (scope : NetScopeModel) (layer : ℕ) (via : List ℕ) (num
   pub free : is_wiring_word via ≡ false
   pub there : via_named scope via ≡ Some number
   pub leads : across scope number layer ≡ Some other
+  pub upright : scope.turned ≡ []
+
+-- the number of a via in the orientation that was read, if it is turned so
+abbrev number_turned : NetScopeModel → ℕ → Option (Orient × Words) → Option (ℕ × Words)
+number_turned scope via said = do
+  orient ← said
+  number ← turn_number scope.turned via orient.0
+  Some (number, orient.1)
+
+-- where no via is turned, an orientation behind one is none of it
+no_turn : (scope : NetScopeModel) (via : ℕ) (words : Words) → scope.turned ≡ [] → turn_of_via_at scope via words ≡ None
+unfolding turn_of_via_at
+no_turn scope via words none = by (orient_at words) where
+  by : (said : Option (Orient × Words)) → number_turned scope via said ≡ None
+  by None = refl
+  by (Some orient) = rw none refl
 
 module _ (scope : NetScopeModel) (narrow : scope.profile ≡ Narrow) (special : Bool) (layer : ℕ) (name : List ℕ)
     (is_layer : IsPathLayer scope.library layer name) where
@@ -156,11 +191,11 @@ module _ (scope : NetScopeModel) (narrow : scope.profile ≡ Narrow) (special : 
               (unwrap_or next (default_extension scope.library (written_as special width) layer)) ∷ [],
           rest,
         )
-    unfolding path_at next_at steps one_item point_item coordinate_at extension_in_point count_at mark_at wires_from extension_at segment_to
+    unfolding path_at next_at steps one_item point_item coordinate_at extension_in_point count_at mark_at wires_from extension_at
     segment_path first None rest is_first is_next ends =
         rw (
           layer_again _,
-          written_again special width _ (width_written scope.library special layer width is_width),
+          written_again scope narrow special width _ (width_written scope.library special layer width is_width),
           first_point_again from first _ is_from is_first,
           point_item_is _,
           no_mark_number 42 refl (omega arith) to.x is_to.x,
@@ -169,13 +204,12 @@ module _ (scope : NetScopeModel) (narrow : scope.profile ≡ Narrow) (special : 
           number_again to.y _ is_to.y,
           ends,
           other_spot from to long,
-          straight,
-          width_again scope.library special layer width is_width,
+          segment_again scope special layer width from to first None straight is_width,
         ) refl
     segment_path first (Some z) rest is_first is_next ends =
         rw (
           layer_again _,
-          written_again special width _ (width_written scope.library special layer width is_width),
+          written_again scope narrow special width _ (width_written scope.library special layer width is_width),
           first_point_again from first _ is_from is_first,
           point_item_is _,
           no_mark_number 42 refl (omega arith) to.x is_to.x,
@@ -187,22 +221,21 @@ module _ (scope : NetScopeModel) (narrow : scope.profile ≡ Narrow) (special : 
           not_below z is_next.1,
           ends,
           other_spot from to long,
-          straight,
-          width_again scope.library special layer width is_width,
+          segment_again scope special layer width from to first (Some z) straight is_width,
         ) refl
 
   -- a via, where its path begins on a layer from which it leads to another
   pub via_path : (at : PointModel) (number other : ℕ) (via : List ℕ) (rest : Words) → IsPosition at → IsViaName scope layer via number other
       → at_path_end rest ≡ true → is_at (codes "N") rest ≡ false
       → path_at scope special (name ∷ (width_words special (pos 0) ++ (point_words at None ++ (via ∷ rest)))) ≡ Some (ViaAt number at ∷ [], rest)
-  unfolding path_at name_at next_at steps one_item item_at item_without_mask past_mask other_item via_item via_at past_north wires_from extension_at across
+  unfolding path_at name_at next_at steps one_item item_at item_without_mask past_mask other_item via_item via_at upright_via_at past_north wires_from extension_at across turn_of_via_at
   via_path at number other via rest is names ends no_north =
       let no_new : is_keyword (codes "NEW") via ≡ false = first_is_none (λ word. is_keyword word via) (codes "NEW") (drop 1 wiring_words) names.free in
       let no_others = others_are_none (λ word. is_keyword word via) (codes "NEW") (drop 1 wiring_words) names.free in
       let no_rect : is_keyword (codes "RECT") via ≡ false = first_is_none (λ word. is_keyword word via) (codes "RECT") (drop 2 wiring_words) no_others in
       rw (
         layer_again _,
-        written_again special (pos 0) _ zero_written,
+        written_again scope narrow special (pos 0) _ zero_written,
         first_point_again at None _ is tt,
         narrow,
         no_new,
@@ -212,6 +245,7 @@ module _ (scope : NetScopeModel) (narrow : scope.profile ≡ Narrow) (special : 
         names.named,
         names.free,
         names.there,
+        no_turn scope number rest names.upright,
         no_north,
         ends,
         names.leads,
@@ -237,7 +271,7 @@ unfolding path_at keyword_at next_at steps one_item item_at item_without_mask pa
 patch_path scope narrow layer name at rect rest is_layer is is_rect ends =
     rw (
       layer_again scope narrow false layer name is_layer _,
-      written_again false (pos 0) _ tt,
+      written_again scope narrow false (pos 0) _ tt,
       first_point_again at None _ is tt,
       narrow,
       number_again rect.x1 _ is_rect.x1,

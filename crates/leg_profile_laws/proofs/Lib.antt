@@ -26,3 +26,4 @@ mod SameLibrary
 pub mod SameDesign
 -- Forms of the wide profile alone
 mod RectMetal
+mod WideMetal

@@ -1,5 +1,5 @@
--- What entries of PINS say in the narrow profile they say in each: their ports have no vias and no masks.
-use Rattle.std.proofs.Common.{◌≡◌, ℕ, Bool, true, false, ◌||◌, List, [], ◌∷◌, ◌++◌, length, map, Option, None, Some, codes, refl}
+-- What entries of PINS say in the narrow profile they say in each: their ports have no polygons, no vias and no masks.
+use Rattle.std.proofs.Common.{◌≡◌, ℕ, Bool, true, false, List, [], ◌∷◌, ◌++◌, length, map, Option, None, Some, codes, refl}
 use Rattle.std.specs.Prelude.{nat_le}
 use Rattle.std.specs.Char.{to_ascii_lowercase}
 use Rattle.std.specs.Str.{bytes_eq}
@@ -15,12 +15,13 @@ use Rattle.leg_grammar.specs.declared.profile.Masks.TheVariants.{Refused, Droppe
 use Rattle.leg_grammar.specs.Def.Guard.{when, unless}
 use Rattle.leg_grammar.specs.Def.Clause.{is_clause, past_number}
 use Rattle.leg_grammar.specs.Mask.{past_mask}
+use Rattle.leg_lib_records.specs.Records.{RuleModel}
 use Rattle.leg_grammar.specs.Def.NetScope.{NetScopeModel}
 use Rattle.leg_grammar.specs.Def.Placement.{says_place, spot_at, rect_at}
 use Rattle.leg_grammar.specs.Def.Layers.{layer_named_at, with_rect}
-use Rattle.leg_grammar.specs.Def.Port.{past_rules, layer_rect}
+use Rattle.leg_grammar.specs.Def.Port.{past_rules, layer_rect, layer_polygon}
 use Rattle.leg_grammar.specs.Def.PortVia.{with_via}
-use Rattle.leg_grammar.specs.Def.PinClauses.{PinClauses, last_port, all_ports, no_pin_clauses, port_start, port_rect, port_via, port_place, pin_net_clause, direction_clause, pin_use_clause, pin_clause}
+use Rattle.leg_grammar.specs.Def.PinClauses.{PinClauses, last_port, all_ports, no_pin_clauses, port_start, port_rect, port_polygon, port_via, port_place, pin_net_clause, direction_clause, pin_use_clause, pin_clause}
 use Rattle.leg_grammar.specs.Def.Pin.{pin_head, pin_in, pin_entry, pins_at}
 use Rattle.leg_profile_laws.proofs.Keeps.{Keeps, keeps_none, keeps_itself, keeps_bind, keeps_if, over_keeps}
 use Rattle.leg_profile_laws.proofs.Sections.{section_keeps}
@@ -71,12 +72,12 @@ corners_same (Wide Dropped soft) layer words = by (is_at (codes "MASK") words) r
   by true there = rw (no_mask layer words there) (keeps_none _)
   by false there = rw there (keeps_itself (corners layer words))
 
-module _ (profile : Profile) (scope : NetScopeModel) where
+module _ (profile : Profile) (scope : NetScopeModel) (rules : List RuleModel) where
   abbrev narrow : NetScopeModel
-  narrow = read_as Narrow scope
+  narrow = read_as Narrow [] scope
 
   abbrev other : NetScopeModel
-  other = read_as profile scope
+  other = read_as profile rules scope
 
   rect_same : (clause : Words) → Keeps (layer_rect Narrow scope.library clause) (layer_rect profile scope.library clause)
   unfolding layer_rect past_mask
@@ -90,6 +91,10 @@ module _ (profile : Profile) (scope : NetScopeModel) where
   port_rect_same parts clause =
       keeps_bind (rect_same clause) (λ on.
       keeps_itself (Some (record parts { last = Some (record (last_port parts) { shapes = with_rect scope.library on.0 on.1 (last_port parts).shapes }) })))
+
+  port_polygon_same : (parts : PinClauses) (clause : Words) → Keeps (port_polygon narrow parts clause) (port_polygon other parts clause)
+  unfolding port_polygon layer_polygon
+  port_polygon_same parts clause = keeps_none (port_polygon other parts clause)
 
   port_via_same : (parts : PinClauses) (clause : Words) → Keeps (port_via narrow parts clause) (port_via other parts clause)
   unfolding port_via with_via
@@ -105,8 +110,9 @@ module _ (profile : Profile) (scope : NetScopeModel) where
       (keeps_if (is_at (codes "LAYER") clause) (port_rect_same parts clause)
       (keeps_if (says_place clause) (keeps_itself (port_place parts clause))
       (keeps_if (is_at (codes "VIA") clause) (port_via_same parts clause)
-      (keeps_if (is_at (codes "POLYGON") clause || is_at (codes "MASK") clause) (keeps_none None)
-      (keeps_itself (when (is_clause clause) >>= λ _. Some parts)))))))))
+      (keeps_if (is_at (codes "POLYGON") clause) (port_polygon_same parts clause)
+      (keeps_if (is_at (codes "MASK") clause) (keeps_none None)
+      (keeps_itself (when (is_clause clause) >>= λ _. Some parts))))))))))
 
   pin_same : (names : List (List ℕ)) (clauses : List Words) → Keeps (pin_in narrow names clauses) (pin_in other names clauses)
   unfolding pin_in

@@ -1,2 +1,2 @@
-pub mod LefMasks
+pub mod WiderForms
 pub mod SegmentMetal

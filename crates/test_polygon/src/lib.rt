@@ -2,4 +2,6 @@
 #![tactic(auto)]
 
 #[cfg(test)]
+mod shapes;
+#[cfg(test)]
 mod tests;

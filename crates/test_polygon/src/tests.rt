@@ -1,15 +1,27 @@
 //! Polygons whose slabs were drawn by hand.
 
+use crate::shapes::{comb, spiral, stairs};
 use leg_polygon::{PolygonFault, Slab, Vertex, slabs};
-use std::alloc::Global;
+use std::alloc::{AllocError, Global};
 use std::process::Abort;
 
 /// Whether the polygon with these points has these slabs.
 fn has(alloc: Global, points: &[Vertex], expected: &[Slab]) -> bool {
-    match slabs(alloc, points) {
+    match slabs(alloc, points, expected.len()) {
         Ok(found) => found.as_slice() == expected,
         Err(_) => false,
     }
+}
+
+/// How many slabs the polygon with these points has, where it may have at most so many.
+fn count(
+    alloc: Global,
+    points: Result<Vec<Vertex, Global>, AllocError>,
+    limit: usize,
+) -> Result<usize, PolygonFault> {
+    let points = points?;
+    let slabs = slabs(alloc, &points, limit)?;
+    Ok(slabs.len())
 }
 
 fn at(x: i64, y: i64) -> Vertex {
@@ -127,9 +139,39 @@ fn the_widest(rt: HostRuntime) {
 fn refused(rt: HostRuntime) {
     let alloc = rt.alloc();
     let slanted = [at(0, 0), at(10, 10), at(0, 10)];
-    assert!(rt; slabs(alloc, &slanted).is_err_and(|fault| fault == PolygonFault::Slanted));
+    assert!(rt; slabs(alloc, &slanted, 0).is_err_and(|fault| fault == PolygonFault::Slanted));
     let flat = [at(0, 0), at(10, 0), at(10, 5), at(10, 0)];
-    assert!(rt; slabs(alloc, &flat).is_err_and(|fault| fault == PolygonFault::Empty));
-    assert!(rt; slabs(alloc, &[at(3, 4)]).is_err_and(|fault| fault == PolygonFault::Empty));
-    assert!(rt; slabs(alloc, &[]).is_err_and(|fault| fault == PolygonFault::Empty));
+    assert!(rt; slabs(alloc, &flat, 0).is_err_and(|fault| fault == PolygonFault::Empty));
+    assert!(rt; slabs(alloc, &[at(3, 4)], 0).is_err_and(|fault| fault == PolygonFault::Empty));
+    assert!(rt; slabs(alloc, &[], 0).is_err_and(|fault| fault == PolygonFault::Empty));
+}
+
+#[test]
+fn as_many_as_there_may_be(rt: HostRuntime) {
+    let alloc = rt.alloc();
+    // The bar, and in the row below each height all teeth that reach it.
+    assert!(rt; count(alloc, comb(alloc, 100), 5_051).is_ok_and(|slabs| slabs == 5_051));
+    assert!(rt;
+        count(alloc, comb(alloc, 100), 5_050).is_err_and(|fault| fault == PolygonFault::TooMany)
+    );
+    // What has too many and a slanted side is slanted.
+    let zigzag = [at(0, 0), at(9, 0), at(9, 9), at(0, 5)];
+    assert!(rt; slabs(alloc, &zigzag, 0).is_err_and(|fault| fault == PolygonFault::Slanted));
+}
+
+#[test]
+fn of_many_points(rt: HostRuntime) {
+    let alloc = rt.alloc();
+    assert!(rt; count(alloc, stairs(alloc, 20_000), 20_000).is_ok_and(|slabs| slabs == 20_000));
+    assert!(rt; count(alloc, spiral(alloc, 9), 1_000).is_ok_and(|slabs| slabs == 17));
+    assert!(rt; count(alloc, spiral(alloc, 41), 1_000).is_ok_and(|slabs| slabs == 401));
+    // These have some millions.
+    assert!(rt;
+        count(alloc, spiral(alloc, 4_997), 1_000_000).is_err_and(|fault| fault
+            == PolygonFault::TooMany)
+    );
+    assert!(rt;
+        count(alloc, comb(alloc, 5_000), 1_000_000).is_err_and(|fault| fault
+            == PolygonFault::TooMany)
+    );
 }

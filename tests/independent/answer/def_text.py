@@ -1,11 +1,14 @@
 """Reads a DEF text as a design over a library."""
 from . import geometry
 from .figures import rect_segments
-from .generated_via import generated_shapes, is_generated
+from .generated_via import clauses_of, generated_shapes, is_generated
 from .lef_text import joined_layers
 from .model import Blockage, Component, Design, DesignPin, Net, PlacedVia, Port, Row, Tracks, Via, numbers_of
+from .polygon import slabs_of
 from .profile import NARROW
-from .wiring_text import Scope, read_wiring
+from .rules import rules_of_section
+from .turned_vias import TurnedVias
+from .wiring_text import Scope, read_placed_via, read_wiring
 from .words import Cursor, NotRead, words_of
 
 READ_PAST = ('VERSION', 'NAMESCASESENSITIVE', 'TECHNOLOGY', 'HISTORY', 'GCELLGRID')
@@ -37,8 +40,10 @@ class DefReader:
         self.macros = numbers_of(library.macros)
         self.macro_pins = [numbers_of(macro.pins) for macro in library.macros]
         self.vias = {via.name: via for via in library.vias}
+        self.rules = dict(library.rules)
         self.found = {'name': None, 'divider': None, 'bus_bits': None, 'units': units_of(words), 'die': None}
         self.rows, self.tracks, self.own_vias = [], [], []
+        self.turned = TurnedVias(library.layers)
         self.sites_of_dropped_rows = set()
         self.components, self.component_numbers = [], {}
         self.pins, self.pin_numbers = [], {}
@@ -60,7 +65,7 @@ class DefReader:
             elif word in READ_PAST or word == 'UNITS' or word == 'COMPONENTMASKSHIFT' and self.profile.drops_masks:
                 self.text.statement()
             elif word in READ_PAST_BY_WORD:
-                self.text.skip_past('END', word)
+                self.skip_block(word)
             elif word == 'BEGINEXT':
                 self.text.skip_past('ENDEXT')
             else:
@@ -69,8 +74,15 @@ class DefReader:
         if any(self.library.macros[it.macro].site in self.sites_of_dropped_rows for it in self.components):
             raise NotRead('a row that is dropped is of the site of a component')
         self.append_pins()
-        return Design(self.library, rows=self.rows, tracks=self.tracks, vias=self.own_vias, components=self.components, pins=self.pins,
+        return Design(self.library, rows=self.rows, tracks=self.tracks, vias=self.own_vias + self.turned.vias, components=self.components, pins=self.pins,
                       blockages=self.blockages, special_nets=self.nets['SPECIALNETS'], nets=self.nets['NETS'], **self.found)
+
+    def skip_block(self, word):
+        """Goes past a section behind its first word; in the wide profile the rules among the entries of NONDEFAULTRULES are kept."""
+        begin = self.text.at
+        self.text.skip_past('END', word)
+        if word == 'NONDEFAULTRULES' and self.profile.wide:
+            self.rules = {**self.library.rules, **rules_of_section(self.text.words[begin:self.text.at - 2], self.library.layers)}
 
     def point(self):
         """Reads `( int int )`."""
@@ -82,6 +94,15 @@ class DefReader:
     def rectangle(self):
         """Reads two corners."""
         return geometry.between(self.point(), self.point())
+
+    def polygon(self):
+        """Reads the points of a polygon, and returns its slabs."""
+        points = [self.point()]
+        while self.text.takes('('):
+            point = [last if self.text.takes('*') else self.text.whole_number() for last in points[-1]]
+            self.text.expect(')')
+            points.append(tuple(point))
+        return slabs_of(points)
 
     def orientation(self):
         """Reads an orientation."""
@@ -140,7 +161,21 @@ class DefReader:
         self.tracks.append(Tracks(axis, start, count, step, tuple(layers)))
 
     def read_section(self, section):
-        """Reads a section behind its first word."""
+        """Reads a section behind its first word; one of nets that is not read without turned vias is read anew with those that it names."""
+        begin = self.text.at
+        try:
+            self.read_entries(section)
+        except NotRead:
+            if not self.profile.wide or section not in self.nets:
+                raise
+            self.text.at, self.nets[section] = begin, []
+            self.text.skip_past('END')
+            self.turned.find(self.text.words[begin:self.text.at - 1], self.vias)
+            self.text.at = begin
+            self.read_entries(section)
+
+    def read_entries(self, section):
+        """Reads the entries of a section behind its first word."""
         entries = {'VIAS': self.read_via, 'COMPONENTS': self.read_component, 'PINS': self.read_pin,
                    'BLOCKAGES': self.read_blockage, 'SPECIALNETS': self.read_net, 'NETS': self.read_net}
         self.text.whole_number()
@@ -153,7 +188,7 @@ class DefReader:
         """Reads an entry of VIAS behind its mark."""
         name = self.text.next()
         if self.profile.wide and is_generated(self.text.words[self.text.at:self.text.words.index(';', self.text.at)]):
-            shapes = generated_shapes(self.text.statement(), self.layers)
+            shapes = generated_shapes(clauses_of(self.text.statement()), self.layers)
         else:
             shapes = self.via_rectangles()
         via = Via(name, tuple(shapes), False, joined_layers(self.library.layers, name, shapes))
@@ -174,12 +209,20 @@ class DefReader:
     def rectangle_on_layer(self):
         """Reads a layer and a rectangle, and returns it in a list, which is empty if the layer has no metal."""
         layer = self.layers[self.text.next()]
+        return self.on_metal(layer, [self.rectangle()])
+
+    def shapes_of_port(self, word):
+        """Reads a layer and a rectangle or a polygon of a port, and returns its shapes, none if the layer has no metal."""
+        layer = self.layers[self.text.next()]
         self.skip_mask()
         while self.text.peek() in ('SPACING', 'DESIGNRULEWIDTH'):
             self.text.next()
             self.text.whole_number()
-        rect = self.rectangle()
-        return [(layer, rect)] if self.library.layers[layer].has_metal() else []
+        return self.on_metal(layer, [self.rectangle()] if word == 'LAYER' else self.polygon())
+
+    def on_metal(self, layer, rects):
+        """Returns rectangles as shapes of a layer, and none if the layer has no metal."""
+        return [(layer, rect) for rect in rects] if self.library.layers[layer].has_metal() else []
 
     def read_component(self, _):
         """Reads an entry of COMPONENTS behind its mark."""
@@ -206,7 +249,7 @@ class DefReader:
                 words[word] = self.text.next()
             elif word == 'PORT':
                 ports.append(Port((), None, None, None))
-            elif word == 'LAYER' or word in PLACES or word == 'VIA' and self.profile.wide:
+            elif word == 'LAYER' or word in PLACES or word in ('VIA', 'POLYGON') and self.profile.wide:
                 last = ports.pop() if ports else Port((), None, None, None)
                 ports.append(self.continued_port(last, word))
             else:
@@ -216,8 +259,8 @@ class DefReader:
 
     def continued_port(self, port, word):
         """Returns the port with what the clause with this word adds."""
-        if word == 'LAYER':
-            return port._replace(shapes=port.shapes + tuple(self.rectangle_on_layer()))
+        if word in ('LAYER', 'POLYGON'):
+            return port._replace(shapes=port.shapes + tuple(self.shapes_of_port(word)))
         if word == 'VIA':
             return port._replace(shapes=port.shapes + tuple(self.via_shapes()))
         return port._replace(status=word, place=self.point(), orientation=self.orientation())
@@ -240,8 +283,11 @@ class DefReader:
         kept = [self.keeps_blockage(layer) for _ in iter(lambda: self.text.takes('+'), False)]
         rects = []
         while not rects or not self.text.takes(';'):
-            self.text.expect('RECT')
-            rects.append(self.rectangle())
+            if self.profile.wide and self.text.takes('POLYGON'):
+                rects += self.polygon()
+            else:
+                self.text.expect('RECT')
+                rects.append(self.rectangle())
         if all(kept) and (layer is None or self.library.layers[layer].has_metal()):
             self.blockages.append(Blockage(layer, tuple(rects)))
 
@@ -265,7 +311,7 @@ class DefReader:
     def read_net(self, section):
         """Reads an entry of NETS or SPECIALNETS behind its mark."""
         name, terminals, use, wires = self.text.next(), {}, None, []
-        scope = Scope(self.library.layers, self.layers, self.vias, self.profile)
+        scope = Scope(self.library.layers, self.layers, self.vias, self.profile, self.rules, self.rule_of_net(section), self.turned)
         is_wide = self.profile.wide and section == 'SPECIALNETS'
         while self.text.takes('('):
             terminals.update(dict.fromkeys(self.read_terminals()))
@@ -279,20 +325,31 @@ class DefReader:
                     self.text.next()
                 if not (is_wide and self.text.peek() == '+'):
                     wires += read_wiring(self.text, scope, section == 'SPECIALNETS')
-            elif word in ('RECT', 'VIA') and is_wide:
-                wires += self.read_figure(word)
+            elif word in ('RECT', 'VIA', 'POLYGON') and is_wide:
+                wires += self.read_figure(word, scope)
             else:
                 self.skip_clause()
         self.nets[section].append(Net(name, tuple(terminals), use, tuple(wires)))
 
-    def read_figure(self, word):
-        """Reads a figure of a special net behind its word, RECT or VIA, and returns its wires."""
-        if word == 'RECT':
-            return rect_segments(self.layers[self.text.next()], self.rectangle())
-        via = self.vias[self.text.next()]
+    def rule_of_net(self, section):
+        """Returns the widths of the rule that the entry names, whose words come next, or None."""
+        words = self.text.words[self.text.at:self.text.words.index(';', self.text.at)]
+        names = [name for mark, word, name in zip(words, words[1:], words[2:]) if mark == '+' and word.upper() == 'NONDEFAULTRULE']
+        if not names:
+            return None
+        if len(names) > 1 or section != 'NETS' or not self.profile.wide or names[0] not in self.rules:
+            raise NotRead(f'an entry has the rule {names[0]}')
+        return self.rules[names[0]]
+
+    def read_figure(self, word, scope):
+        """Reads a figure of a special net behind its word, RECT, POLYGON or VIA, and returns its wires."""
+        if word != 'VIA':
+            layer = self.layers[self.text.next()]
+            rects = [self.rectangle()] if word == 'RECT' else self.polygon()
+            return [segment for rect in rects for segment in rect_segments(layer, rect)]
+        via = read_placed_via(self.text, scope)
         if not via.joins:
             raise NotRead(f'{via.name} is not good')
-        self.text.takes('N')
         points = [self.point()]
         while self.text.peek() == '(':
             points.append(self.point())

@@ -1,17 +1,18 @@
-"""Reads a generated via: an entry of VIAS that has numbers in place of rectangles."""
+"""Reads a generated via: one of VIAS or of a LEF that has numbers in place of rectangles."""
 import re
 
 from .geometry import moved
 from .words import NotRead, whole_number
 
 MOST_CUTS = 10000
-# The clauses that count, each with how many numbers it has.
-NUMBERS = {'CUTSIZE': 2, 'CUTSPACING': 2, 'ENCLOSURE': 4, 'ROWCOL': 2, 'ORIGIN': 2, 'OFFSET': 4}
+# The clauses that count, each with how many numbers it has, and the least that they may be.
+NUMBERS = {'CUTSIZE': (2, 1), 'CUTSPACING': (2, 0), 'ENCLOSURE': (4, 0), 'ROWCOL': (2, 1), 'ORIGIN': (2, None), 'OFFSET': (4, None)}
+NEEDED = {'VIARULE', 'CUTSIZE', 'LAYERS', 'CUTSPACING', 'ENCLOSURE'}
 DEFAULTS = {'ROWCOL': (1, 1), 'ORIGIN': (0, 0), 'OFFSET': (0, 0, 0, 0)}
 LEFT_OUT = ('RECT', 'POLYGON', 'PATTERNNAME', 'MASK')
 # An item of a row of a pattern: a digit, behind R and how many times it stands there, or alone.
 DIGITS = re.compile(r'R([1-9A-Fa-f])([0-9A-Fa-f])|([0-9A-Fa-f])')
-ROWS = re.compile(rf'([0-9A-Fa-f]+)_((?:{DIGITS.pattern})*)')
+ROWS = re.compile(rf'([0-9A-Fa-f]+)_((?:{DIGITS.pattern})+)')
 
 
 def is_generated(words):
@@ -19,24 +20,41 @@ def is_generated(words):
     return any(mark == '+' and word.upper() == 'VIARULE' for mark, word in zip(words, words[1:]))
 
 
-def generated_shapes(words, layers):
-    """Returns the shapes of a generated via with the words of these clauses; layers has the numbers of layers by their names."""
-    found, names, pattern = dict(DEFAULTS), None, None
-    for clause in clauses_of(words):
+def generated_shapes(clauses, layers, length=whole_number):
+    """Returns the shapes of a generated via of these clauses or statements, each a list of words; layers has the numbers of layers by their names,
+    and length reads a number but those of ROWCOL."""
+    found = {}
+    for clause in clauses:
         word, rest = clause[0].upper(), clause[1:]
-        if word in LEFT_OUT:
-            raise NotRead(f'a generated via has {word}')
+        if word in LEFT_OUT or word in found:
+            raise NotRead(f'a generated via has {word}, or has it twice')
         if word in NUMBERS:
-            found[word] = numbers(rest, NUMBERS[word])
+            found[word] = numbers(rest, *NUMBERS[word], whole_number if word == 'ROWCOL' else length)
         elif word == 'LAYERS':
-            names = [layers[name] for name in rest]
-        elif word == 'PATTERN':
-            pattern = Pattern(rest[0])
-    bottom, cut, top = names
+            found[word] = layer_numbers(rest, layers)
+        elif word in ('PATTERN', 'VIARULE'):
+            if len(rest) != 1:
+                raise NotRead(f'{word} has other than one word')
+            found[word] = Pattern(rest[0]) if word == 'PATTERN' else rest[0]
+    if NEEDED - set(found):
+        raise NotRead('a generated via lacks numbers')
+    return shapes_of({**DEFAULTS, **found})
+
+
+def layer_numbers(names, layers):
+    """Returns the numbers of three layers."""
+    if len(names) != 3 or any(name not in layers for name in names):
+        raise NotRead('a generated via is not on three layers')
+    return [layers[name] for name in names]
+
+
+def shapes_of(found):
+    """Returns the shapes of a via with these numbers, by the words of clauses."""
+    bottom, cut, top = found['LAYERS']
     around = array_box(found)
     px, py, qx, qy = found['OFFSET']
     bx, by, tx, ty = found['ENCLOSURE']
-    cuts = [(cut, rect) for rect in cut_rects(found, around[:2], pattern)]
+    cuts = [(cut, rect) for rect in cut_rects(found, around[:2], found.get('PATTERN'))]
     return [(bottom, moved(grown(around, bx, by), (px, py))), *cuts, (top, moved(grown(around, tx, ty), (qx, qy)))]
 
 
@@ -51,11 +69,14 @@ def clauses_of(words):
     return clauses
 
 
-def numbers(words, count):
-    """Returns these words as so many whole numbers."""
+def numbers(words, count, least, number):
+    """Returns these words as so many numbers, of which none is below the least; a function reads each."""
     if len(words) != count:
         raise NotRead(f'there are not {count} numbers')
-    return tuple(whole_number(word) for word in words)
+    found = tuple(number(word) for word in words)
+    if least is not None and min(found) < least:
+        raise NotRead(f'a number is below {least}')
+    return found
 
 
 def array_box(found):

@@ -1,20 +1,20 @@
 """Reads LEF texts as a library in database units."""
 from . import geometry
-from .model import Layer, Library, Macro, MacroPin, Site, Via, numbers_of
+from .generated_via import generated_shapes
+from .lef_geometry import GeometryReader, NotOnUnit, number_of
+from .model import Layer, Macro, MacroPin, Site, Via, numbers_of
 from .polygon import slabs_of
 from .profile import NARROW
 from .words import Cursor, NotRead, millionths, words_of
 
-READ_PAST_BY_NAME = ('VIARULE', 'NONDEFAULTRULE')
+READ_PAST_BY_NAME = ('VIARULE', 'NONDEFAULTRULE')  # (a rule is read past in the narrow profile alone)
 READ_PAST_BY_WORD = ('UNITS', 'PROPERTYDEFINITIONS', 'SPACING')
-# How often a rectangle of a geometry is repeated at the most.
-MOST_REPEATED = 10000
 # A via with one of these names is not good.
 RESERVED = ('NEW', 'RECT', 'TAPER', 'TAPERRULE', 'STYLE', 'MASK', 'VIRTUAL', 'DO') + geometry.ORIENTATIONS
 
 
-class NotOnUnit(NotRead):
-    """A length is not a whole number of database units: no macro is dropped for it."""
+class NotGood(NotRead):
+    """A via is kept by its name alone."""
 
 
 def read_library(texts, units, profile=NARROW):
@@ -38,17 +38,14 @@ def joined_layers(layers, name, shapes):
     return (used[0], used[2]) if all(around) else None
 
 
-class LefReader:
+class LefReader(GeometryReader):
     """Reads one text after another into one library."""
-
-    def __init__(self, units, profile):
-        self.units = units
-        self.profile = profile
-        self.library = Library([], [], [], [])
 
     def read(self, text):
         """Reads a whole text."""
         forms = {'LAYER': self.read_layer, 'VIA': self.read_via, 'SITE': self.read_site, 'MACRO': self.read_macro_or_drop}
+        if self.profile.wide:
+            forms['NONDEFAULTRULE'] = self.read_rule
         while not text.is_at_end():
             word = text.keyword()
             if word == 'END':
@@ -66,32 +63,6 @@ class LefReader:
             elif word != ';':
                 text.statement()
 
-    def length(self, word):
-        """Returns a length of the text in database units."""
-        return self.in_units(millionths(word))
-
-    def in_units(self, length):
-        """Returns so many millionths of a micron in database units."""
-        units, rest = divmod(length * self.units, 10 ** 6)
-        if rest:
-            raise NotOnUnit(f'{length} millionths are not a whole number of database units')
-        return units
-
-    def point(self, text, length=None):
-        """Reads `len len` or `( len len )`, each length by a function: in database units, if none is given."""
-        length = length or self.length
-        if text.takes('('):
-            point = length(text.next()), length(text.next())
-            text.expect(')')
-            return point
-        return length(text.next()), length(text.next())
-
-    def rectangle(self, text):
-        """Reads two corners and the semicolon behind them."""
-        rect = geometry.between(self.point(text), self.point(text))
-        text.expect(';')
-        return rect
-
     def size(self, text):
         """Reads `SIZE len BY len ;` behind its first word."""
         width = self.length(text.next())
@@ -99,10 +70,6 @@ class LefReader:
         height = self.length(text.next())
         text.expect(';')
         return width, height
-
-    def layer_number(self, name):
-        """Returns the number of the layer with this name."""
-        return number_of(self.library.layers, name)
 
     def read_layer(self, text):
         """Reads a layer behind its first word."""
@@ -142,28 +109,88 @@ class LefReader:
         marks = set()
         while text.peek() in {'DEFAULT', 'TOPOFSTACKONLY', 'GENERATED'} - marks:
             marks.add(text.keyword())
-        shapes, good, layer = [], True, None
+        statements = []
         while not text.takes('END'):
-            words = text.statement()
-            key = words[0].upper() if words else ''
-            if key == 'LAYER':
-                layer = self.layer_number(words[1])
-            elif key in ('VIARULE', 'POLYGON') or key == 'RECT' and words[1].upper() == 'MASK' and not self.profile.drops_masks:
-                good = False
-            elif key == 'RECT' and self.library.layers[layer].has_metal():
-                shapes.append((layer, words[3:] if words[1].upper() == 'MASK' else words[1:]))
+            statements.append(text.statement())
         text.expect(name)
+        try:
+            shapes = self.exact_shapes([words for words in statements if words])
+        except NotGood:
+            shapes = []
+        joins = joined_layers(self.library.layers, name, shapes)
         # (the lengths of a via that is not good need not be whole numbers of units)
-        exact = [(number, self.rectangle_of(words, millionths)) for number, words in shapes]
-        joins = joined_layers(self.library.layers, name, exact) if good else None
-        found = [(number, self.rectangle_of(words, self.length)) for number, words in shapes] if joins else []
+        found = [(number, tuple(self.in_units(side) for side in rect)) for number, rect in shapes] if joins else []
         self.library.vias.append(Via(name, tuple(found), 'DEFAULT' in marks, joins))
 
-    @staticmethod
-    def rectangle_of(words, length):
-        """Returns the rectangle of two points, of which each length is read by this function."""
-        left, lower, right, upper = (length(word) for word in words if word not in ('(', ')'))
-        return geometry.between((left, lower), (right, upper))
+    def exact_shapes(self, statements):
+        """Returns the shapes of a via of these statements, in millionths of a micron."""
+        if self.profile.wide and any(words[0].upper() == 'VIARULE' for words in statements):
+            try:
+                return generated_shapes(statements, numbers_of(self.library.layers), millionths)
+            except NotRead as why:
+                raise NotGood(str(why)) from None
+        shapes, layer = [], None
+        for key, *words in statements:
+            key = key.upper()
+            if key == 'LAYER':
+                layer = self.layer_number(words[0])
+            elif key == 'VIARULE':
+                raise NotGood('a via of a rule')
+            elif key in ('RECT', 'POLYGON'):
+                shapes += [(layer, rect) for rect in self.rects_of_via(key, words, layer)]
+        return shapes
+
+    def rects_of_via(self, key, words, layer):
+        """Returns the rectangles of a RECT or a POLYGON of a via with these words behind it, on a layer."""
+        text = Cursor([*words, ';'])
+        is_masked = not self.skip_mask(text) and text.peek() == 'MASK'
+        if layer is None or (is_masked if key == 'RECT' else not self.profile.wide):
+            raise NotGood(f'a via has a {key} that it may not have')
+        if not self.library.layers[layer].has_metal():
+            return []
+        if is_masked:
+            raise NotGood('a via has a mask')
+        if key == 'RECT':
+            return [geometry.between(self.point(text, millionths), self.point(text, millionths))]
+        try:
+            return slabs_of(self.points(text))
+        except NotRead as why:
+            raise NotGood(str(why)) from None
+
+    def read_rule(self, text):
+        """Reads a nondefault rule behind its first word."""
+        name, widths = text.next(), {}
+        while not text.takes('END'):
+            word = text.keyword()
+            if word == 'LAYER':
+                number, width = self.width_of_rule(text)
+                if number in widths:
+                    raise NotRead('a rule has a layer twice')
+                widths[number] = width
+            elif word == 'VIA':
+                self.read_via(text)
+            elif word == 'SPACING':
+                text.skip_past('END', 'SPACING')
+            elif word != ';':
+                text.statement()
+        text.expect(name)
+        if name in self.library.rules:
+            raise NotRead(f'a second rule is named {name}')
+        self.library.rules[name] = widths
+
+    def width_of_rule(self, text):
+        """Reads a LAYER of a rule behind its first word, and returns the number of the layer and the width of the rule's wires there."""
+        name, widths = text.next(), []
+        while not text.takes('END'):
+            if text.takes('WIDTH'):
+                widths.append(self.length(text.next()))
+                text.expect(';')
+            else:
+                text.statement()
+        text.expect(name)
+        if len(widths) != 1 or widths[0] <= 0:
+            raise NotRead('a rule does not tell the width of a layer once')
+        return self.layer_number(name), widths[0]
 
     def read_site(self, text):
         """Reads a site behind its first word."""
@@ -239,80 +266,6 @@ class LefReader:
                 text.statement()
         text.expect(name)
         return MacroPin(name, use if use in ('POWER', 'GROUND') else None, tuple(shapes))
-
-    def read_geometry(self, text):
-        """Reads a geometry up to its END, and returns its shapes on layers with metal."""
-        shapes, layer = [], None
-        while not text.takes('END'):
-            word = text.keyword()
-            if word == 'LAYER':
-                layer = self.geometry_layer(text)
-            elif word in ('WIDTH', 'CLASS') or layer is not None and not self.library.layers[layer].has_metal():
-                text.statement()
-            elif word == 'RECT' and layer is not None:
-                shapes += [(layer, rect) for rect in self.rectangles(text)]
-            elif word == 'POLYGON' and layer is not None and self.profile.wide:
-                shapes += [(layer, rect) for rect in self.polygon(text)]
-            elif word == 'VIA' and self.profile.wide:
-                shapes += self.via_shapes(text)
-            else:
-                raise NotRead(f'a geometry has {word}')
-        return shapes
-
-    def geometry_layer(self, text):
-        """Reads a LAYER of a geometry behind its first word, and returns the number of the layer."""
-        name, *rest = text.statement()
-        if 'EXCEPTPGNET' in [word.upper() for word in rest] and not self.profile.wide:
-            raise NotRead('a shape does not keep out power and ground')
-        return self.layer_number(name)
-
-    def skip_mask(self, text):
-        """Goes past a mask if masks are dropped."""
-        if self.profile.drops_masks and text.takes('MASK'):
-            text.whole_number()
-
-    def rectangles(self, text):
-        """Reads one rectangle, or one that is repeated in columns and rows."""
-        self.skip_mask(text)
-        if not self.profile.wide or not text.takes('ITERATE'):
-            return [self.rectangle(text)]
-        rect = geometry.between(self.point(text), self.point(text))
-        text.expect('DO')
-        columns = text.whole_number()
-        text.expect('BY')
-        rows = text.whole_number()
-        text.expect('STEP')
-        across, up = self.length(text.next()), self.length(text.next())
-        text.expect(';')
-        if not (columns >= 1 and rows >= 1 and columns * rows <= MOST_REPEATED):
-            raise NotRead('a rectangle is repeated too often')
-        return [geometry.moved(rect, (column * across, row * up)) for row in range(rows) for column in range(columns)]
-
-    def polygon(self, text):
-        """Reads the points of a polygon and the semicolon behind them, and returns its slabs in database units."""
-        self.skip_mask(text)
-        points = []
-        while not text.takes(';'):
-            points.append(self.point(text, millionths))
-        return [tuple(self.in_units(it) for it in slab) for slab in slabs_of(points)]
-
-    def via_shapes(self, text):
-        """Reads a point and a good via, and returns its shapes there."""
-        self.skip_mask(text)
-        by, name = self.point(text), text.next()
-        text.expect(';')
-        via = self.library.vias[number_of(self.library.vias, name)]
-        if not via.joins:
-            raise NotRead(f'{name} is not good')
-        return [(layer, geometry.moved(rect, by)) for layer, rect in via.shapes]
-
-
-def number_of(items, name):
-    """Returns the number of the item with this name."""
-    numbers = numbers_of(items)
-    if name not in numbers:
-        raise NotRead(f'nothing is named {name}')
-    return numbers[name]
 
 
 def moved(shapes, by):

@@ -61,11 +61,13 @@ class Macro(NamedTuple):
 
 
 class Library(NamedTuple):
-    """What the LEF texts define, each list in the order of the texts."""
+    """What the LEF texts define, each list in the order of the texts; rules has the widths of nondefault rules by their names, each by the number of
+    its layer."""
     layers: List[Layer]
     vias: List[Via]
     sites: List[Site]
     macros: List[Macro]
+    rules: Dict[str, Dict[int, int]]
 
     def routing_layers(self):
         """Returns the numbers of the routing layers, bottom up."""

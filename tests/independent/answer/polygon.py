@@ -1,8 +1,8 @@
 """The slabs of a polygon of a geometry, in the wide profile."""
 from .words import NotRead
 
-# How many points a polygon has at the most.
-MOST_POINTS = 1000
+# How many slabs a polygon has at the most.
+MOST_SLABS = 1000000
 
 
 def around(items):
@@ -23,8 +23,6 @@ def corners_of(points):
 
 def slabs_of(points):
     """Returns the slabs of the closed walk through these points, from the bottom up and from west to east."""
-    if len(points) > MOST_POINTS:
-        raise NotRead('a polygon has too many points')
     corners = corners_of(points)
     sides = [(corner, after) for _, corner, after in around(corners)]
     if any(a[0] != b[0] and a[1] != b[1] for a, b in sides):
@@ -38,6 +36,8 @@ def slabs_of(points):
                 borders ^= {x}
         borders = sorted(borders)
         slabs += [(left, low, right, high) for left, right in zip(borders[::2], borders[1::2])]
+    if len(slabs) > MOST_SLABS:
+        raise NotRead('a polygon has too many slabs')
     if not slabs:
         raise NotRead('a polygon has no unit square inside')
     return slabs

@@ -1,9 +1,11 @@
 """Reads the wiring of a net."""
-from typing import Dict, List, NamedTuple
+from typing import Dict, List, NamedTuple, Optional
 
 from . import geometry
+from .metal import segment_rect
 from .model import Layer, Patch, PlacedVia, Segment, Via
 from .profile import Profile
+from .turned_vias import TurnedVias
 from .words import NotRead
 
 
@@ -16,11 +18,15 @@ class Stop:
 
 
 class Scope(NamedTuple):
-    """What wiring names: the layers, with their numbers by their names, and all vias by theirs; and the profile."""
+    """What wiring names: the layers, with their numbers by their names, all vias and nondefault rules by theirs, and vias that are turned; the
+    profile; and the widths of the rule of the net, or None."""
     layers: List[Layer]
     numbers: Dict[str, int]
     vias: Dict[str, Via]
     profile: Profile
+    rules: Dict[str, Dict[int, int]]
+    rule: Optional[Dict[int, int]]
+    turned: TurnedVias
 
 
 def read_wiring(text, scope, special):
@@ -32,13 +38,27 @@ def read_wiring(text, scope, special):
             return wires
 
 
+def read_placed_via(text, scope):
+    """Reads the name of a via and the orientation behind it, if there is one, and returns the via."""
+    name = text.next()
+    if name not in scope.vias:
+        raise NotRead(f'there is no via {name}')
+    if text.takes('N') or not scope.profile.wide or text.peek() not in geometry.ORIENTATIONS:
+        return scope.vias[name]
+    via = scope.turned.via(name, text.keyword())
+    if not via:
+        raise NotRead(f'{name} is turned')
+    return via
+
+
 class Path:
     """One path of a wiring."""
 
     def __init__(self, text, scope, special):
         self.text = text
-        self.layers, self.numbers, self.vias, self.profile = scope
+        self.scope, self.layers, self.profile = scope, scope.layers, scope.profile
         self.special = special
+        self.rule = scope.rule
         self.layer = self.width = self.stop = None
         # wires, but a segment as a list of its layer and its two stops, until all extensions are known
         self.wires = []
@@ -65,14 +85,22 @@ class Path:
 
     def read_head(self):
         """Reads the path up to its first point."""
-        self.layer = self.numbers[self.text.next()]
+        name = self.text.next()
+        if name not in self.scope.numbers:
+            raise NotRead(f'there is no layer {name}')
+        self.layer = self.scope.numbers[name]
         if self.special:
             self.width = self.text.whole_number()
             while self.text.takes('+'):
                 self.text.expect('SHAPE')
                 self.text.next()
-        else:
-            self.text.takes('TAPER')
+        elif self.text.takes('TAPER'):
+            self.rule = None
+        elif self.profile.wide and self.text.takes('TAPERRULE'):
+            name = self.text.next()
+            if name not in self.scope.rules:
+                raise NotRead(f'there is no rule {name}')
+            self.rule = self.scope.rules[name]
         self.read_point()
 
     def coordinate(self, last):
@@ -110,11 +138,10 @@ class Path:
 
     def read_via(self):
         """Reads a via, behind which the path goes on in its other routing layer."""
-        via = self.vias[self.text.next()]
+        via = read_placed_via(self.text, self.scope)
         if not via.joins or self.layer not in via.joins:
             raise NotRead(f'{via.name} is not a via of this layer')
         self.layer = via.joins[0] + via.joins[1] - self.layer
-        self.text.takes('N')
         x, y = self.stop.point
         self.wires += [PlacedVia(via, (x + across, y + up)) for across, up in self.read_steps()]
 
@@ -130,8 +157,14 @@ class Path:
         return [(column * across, row * up) for row in range(rows) for column in range(columns)]
 
     def segment(self, layer, start, end):
-        """Returns the segment between two stops."""
-        width = self.width if self.special else self.layers[layer].width
+        """Returns the segment between two stops, or all its metal as a patch if its width is by a rule and not that of its layer."""
+        width = self.width if self.special else (self.rule or {}).get(layer, self.layers[layer].width)
+        if width % 2:
+            raise NotRead('a wire has an odd width')
         default = 0 if self.special else width // 2
         ends = [default if stop.extension is None else stop.extension for stop in (start, end)]
-        return Segment(layer, width, start.point, end.point, *ends)
+        segment = Segment(layer, width, start.point, end.point, *ends)
+        if self.special or width == self.layers[layer].width:
+            return segment
+        x, y = start.point
+        return Patch(layer, start.point, geometry.moved(segment_rect(segment), (-x, -y)))

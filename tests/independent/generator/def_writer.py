@@ -149,8 +149,11 @@ class DefWriter:
 
     def port_shape(self, layer, rect):
         """Returns the clause of a shape of a port."""
-        middle = self.dice.one_of((' SPACING 3', ' DESIGNRULEWIDTH 4')) if self.dice.chance(self.odd) else ''
-        return f'+ {self.key("LAYER")} {self.layers[layer].name}{self.mask()}{middle} {self.corners(rect)}'
+        return f'+ {self.key("LAYER")} {self.layers[layer].name}{self.mask()}{self.middle_of_shape()} {self.corners(rect)}'
+
+    def middle_of_shape(self):
+        """Returns what may stand behind the layer of a shape of a port."""
+        return self.dice.one_of((' SPACING 3', ' DESIGNRULEWIDTH 4')) if self.dice.chance(self.odd) else ''
 
     def blockages(self):
         """Returns the section BLOCKAGES, with entries on layers without metal in some cases."""
@@ -167,7 +170,11 @@ class DefWriter:
         """Returns an entry of BLOCKAGES."""
         words = self.key('PLACEMENT') if blockage.layer is None else f'{self.key("LAYER")} {self.layers[blockage.layer].name}'
         pushed = [f'+ {self.key("PUSHDOWN")}' for _ in range(self.dice.between(1, 2) if self.dice.chance(0.2) else 0)]
-        return ' '.join(['-', words, *self.with_other_clauses(pushed, blockage), *(f'{self.key("RECT")} {self.corners(rect)}' for rect in blockage.rects), ';'])
+        return ' '.join(['-', words, *self.with_other_clauses(pushed, blockage), *map(self.blocked, blockage.rects), ';'])
+
+    def blocked(self, rect):
+        """Returns a rectangle of a blockage."""
+        return f'{self.key("RECT")} {self.corners(rect)}'
 
     def with_other_clauses(self, clauses, blockage):
         """Returns the clauses of a blockage, with others that it may have."""

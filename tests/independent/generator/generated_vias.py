@@ -4,8 +4,9 @@ from .wide_forms import has
 DIGITS = '0123456789ABCDEFabcdef'
 
 
-def generated_clauses(dice, plan, names, number):
-    """Returns the clauses of a generated via on the layers of these names, in any order; number is how whole numbers are written."""
+def generated_clauses(dice, plan, names, number, count=None):
+    """Returns the clauses of a generated via on the layers of these names, in any order; number is how numbers of units are written, and count how
+    other whole numbers are, if it is in another way."""
     unit = max(1, plan.pitch // 8)
     rows, columns = dice.one_of(((1, 1), (1, dice.between(1, 4)), (dice.between(1, 4), 1), (dice.between(1, 4), dice.between(1, 9))))
     (width, across), (height, up) = (even_whole(count, dice.between(1, unit), dice.between(0, unit)) for count in (columns, rows))
@@ -15,7 +16,7 @@ def generated_clauses(dice, plan, names, number):
     clauses = ['+ VIARULE any', clause('CUTSIZE', width, height), f'+ LAYERS {" ".join(names)}', clause('CUTSPACING', across, up),
                clause('ENCLOSURE', *(dice.between(0, unit) for _ in range(4)))]
     if rows * columns > 1 or dice.chance(0.3):
-        clauses.append(clause('ROWCOL', rows, columns))
+        clauses.append(' '.join(['+ ROWCOL', *map(count or number, (rows, columns))]))
     if dice.chance(0.2):
         clauses.append(clause('ORIGIN', *(dice.between(-unit, unit) for _ in range(2))))
     if dice.chance(0.2):

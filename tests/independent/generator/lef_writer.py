@@ -20,6 +20,7 @@ def spelled(dice, word):
 
 class LefWriter:
     """Writes the LEF texts of a block."""
+    text_forms = TEXT_FORMS
 
     def __init__(self, dice, plan, technology):
         self.dice = dice
@@ -33,6 +34,7 @@ class LefWriter:
         parts = [self.layer(it) for it in self.library.layers]
         vias = [self.via(it) for it in self.library.vias]
         parts += vias + self.odd_vias if self.dice.chance(0.5) else self.odd_vias + vias
+        parts += self.rules()
         parts += [self.site(it) for it in self.library.sites]
         parts += self.macros()
         cuts = sorted(self.dice.below(len(parts) + 1) for _ in range(self.dice.below(3) if self.odd else 0))
@@ -41,7 +43,7 @@ class LefWriter:
 
     def text(self, parts):
         """Returns one text of these parts."""
-        begin = ''.join(form for form in TEXT_FORMS if self.dice.chance(self.odd))
+        begin = ''.join(form for form in self.text_forms if self.dice.chance(self.odd))
         return respaced(self.dice, self.odd, begin + ''.join(parts) + ('END LIBRARY\n' if self.dice.chance(0.8) else ''))
 
     def key(self, word):
@@ -66,8 +68,8 @@ class LefWriter:
         text = f'{self.length(point[0])} {self.length(point[1])}'
         return f'( {text} )' if self.dice.chance(self.odd) else text
 
-    def rect(self, rect):
-        """Returns a rectangle's statement, by two opposite corners."""
+    def rect(self, rect, _layer=None):
+        """Returns the statement of a rectangle on a layer, by two opposite corners."""
         left, lower, right, upper = rect
         pair = self.dice.one_of((((left, lower), (right, upper)), ((right, upper), (left, lower)), ((left, upper), (right, lower)))) \
             if self.dice.chance(self.odd) else ((left, lower), (right, upper))
@@ -83,10 +85,14 @@ class LefWriter:
         words, last = [], None
         for layer, rect in shapes:
             if layer != last or self.dice.chance(self.odd):
-                words.append(f'{self.key("LAYER")} {self.library.layers[layer].name}{self.dice.one_of(more)} ;')
-            words.append(self.rect(rect))
+                words.append(self.layer_of_shapes(layer, more))
+            words.append(self.rect(rect, layer))
             last = layer
         return ' '.join(words)
+
+    def layer_of_shapes(self, layer, more=('',)):
+        """Returns the statement that names the layer of the shapes behind it, with some more words behind the name."""
+        return f'{self.key("LAYER")} {self.library.layers[layer].name}{self.dice.one_of(more)} ;'
 
     def geometry(self, shapes):
         """Returns a geometry of these shapes, with forms in it that are read past."""
@@ -120,6 +126,10 @@ class LefWriter:
 
     def size(self, width, height):
         return f'{self.key("SIZE")} {self.length(width)} {self.key("BY")} {self.length(height)} ;'
+
+    def rules(self):
+        """Returns the nondefault rules."""
+        return []
 
     def site(self, site):
         words = [self.size(site.width, site.height), 'CLASS CORE ;']

@@ -94,9 +94,13 @@ class PathWriter:
         if self.special:
             words.append(self.number(chain.width if chain.width is not None else self.dice.one_of((0, 40))))
             words += ['+ SHAPE STRIPE'] if self.joins and self.dice.chance(0.3) else []
-        elif self.joins and self.dice.chance(0.05):
-            words.append('TAPER')
+        else:
+            words += self.tapering()
         return ' '.join([*words, *self.stop(chain, 0, None), *self.items(chain)])
+
+    def tapering(self):
+        """Returns what may stand behind the layer of a path of NETS."""
+        return ['TAPER'] if self.joins and self.dice.chance(0.05) else []
 
     def items(self, chain):
         """Returns the words of a path behind its first point."""
@@ -106,10 +110,14 @@ class PathWriter:
                 at += 1
                 words += self.masked(self.stop(chain, at, chain.stops[at - 1][0]))
             elif isinstance(wire, PlacedVia):
-                words += self.masked([wire.via.name] + (['N'] if self.joins and self.dice.chance(0.1) else []))
+                words += self.masked(self.via(wire.via))
             else:
                 words += self.masked(['RECT (', *map(self.number, wire.rect), ')'])
         return words
+
+    def via(self, via):
+        """Returns the words of a via."""
+        return [via.name] + (['N'] if self.joins and self.dice.chance(0.1) else [])
 
     def masked(self, words):
         """Returns the words of an item, with a mask before them where one has no effect."""

@@ -17,7 +17,7 @@ OTHER_KINDS = ('MASTERSLICE', 'OVERLAP', 'IMPLANT')
 
 def technology(dice, plan):
     """Returns layers, vias and sites."""
-    library = Library(layers(dice, plan), [], [], [])
+    library = Library(layers(dice, plan), [], [], [], {})
     levels = library.routing_layers()
     for lower, upper in zip(levels, levels[1:]):
         cuts = [number for number in range(lower + 1, upper) if library.layers[number].kind == 'CUT']

@@ -14,9 +14,15 @@ FORMS = {
     'mask of a LEF': True,
     'obstruction but for power': True,
     'polygon': True,
-    'array of rectangles': False,
-    'via of a geometry': False,
+    'array of shapes': True,
+    'via of a geometry': True,
     'dropped macro': True,
+    'generated via of a LEF': True,
+    'polygon of a via': True,
+    'nondefault rule': True,
+    'polygon of a DEF': True,
+    'turned via': True,
+    'path of a LEF': True,
 }
 # A site that no macro has, for rows that are dropped.
 SITE_OF_PADS = 'site_of_pads'

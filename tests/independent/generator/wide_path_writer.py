@@ -1,15 +1,36 @@
-"""Writes the wires of a net with forms of the wide profile: figures, steps without metal, arrays of one via and masks."""
+"""Writes the wires of a net with forms of the wide profile: figures, steps without metal, arrays of one via, turned vias, rules and masks."""
+from answer.geometry import ORIENTATIONS, oriented
 from answer.model import PlacedVia, Segment
+from answer.polygon import slabs_of
 from .path_writer import PathWriter, written
+from .polygons import polygon_and_rest
 from .wide_forms import has
 
 
 class WidePathWriter(PathWriter):
     """Writes wires in the wide profile."""
 
-    def __init__(self, dice, layers, special, number, joins, profile):
-        super().__init__(dice, layers, special, number, joins)
-        self.profile = profile
+    def __init__(self, writer, special, rule):
+        super().__init__(writer.dice, writer.layers, special, writer.number, writer.joins)
+        self.writer = writer
+        self.profile = writer.plan.profile
+        self.rules, self.rule = writer.rules, rule
+
+    def tapering(self):
+        """Returns what stands behind the layer of a path of NETS, so that its wires have the widths of their layers."""
+        kept = self.rules.name(True)
+        if kept and has(self.dice, 'nondefault rule', 0.2):
+            return ['TAPERRULE', kept]
+        return ['TAPER'] if self.rule and not self.rules.keeps(self.rule) else super().tapering()
+
+    def via(self, via):
+        """Returns the words of a via, with an orientation in some cases in which it is the same."""
+        same = [it for it in ORIENTATIONS if tuple((layer, oriented(rect, 0, 0, it)) for layer, rect in via.shapes) == tuple(via.shapes)]
+        return [via.name, self.dice.one_of(same)] if self.turns(0.1) else super().via(via)
+
+    def turns(self, part):
+        """Whether a via is to have an orientation, in so many cases of 1: not where a net may be named END, up to which turned vias are found."""
+        return not self.writer.plan.odd_names and has(self.dice, 'turned via', part)
 
     def mask(self):
         """Returns the words of a mask in some cases, where masks have no effect."""
@@ -53,25 +74,36 @@ class WidePathWriter(PathWriter):
         if len(chain.wires) != 1 or isinstance(wire, Segment) and (wire.start_extension or wire.end_extension):
             return None
         if isinstance(wire, PlacedVia):
-            words = ['+ VIA', wire.via.name, self.dice.one_of(('', '', 'N')), self.point(wire.point, None, None)]
+            words = ['+ VIA', *self.via(wire.via), self.point(wire.point, None, None)]
         else:
-            words = ['+ RECT', self.layers[wire.layer].name, *self.corners(wire)]
-        return ' '.join([*self.before(), *filter(None, words)])
+            words = [self.rect_or_polygon(wire)]
+        return ' '.join([*self.before(words[0].startswith('+ POLYGON')), *words])
 
-    def before(self):
-        """Returns clauses before a figure."""
+    def rect_or_polygon(self, wire):
+        """Returns the figure of a segment: a rectangle, or in some cases a polygon and rectangles that are together the same."""
+        layer, rect = self.layers[wire.layer].name, self.rect_of(wire)
+        points, rest = polygon_and_rest(self.dice, rect)
+        if not has(self.dice, 'polygon of a DEF', 0.3) or any(right - left == 1 == upper - lower for left, lower, right, upper in slabs_of(points) + rest):
+            return ' '.join(['+ RECT', layer, *self.corners(rect)])
+        return ' '.join(['+ POLYGON', layer, self.writer.polygon(points), *(' '.join(['+ RECT', layer, *self.corners(it)]) for it in rest)])
+
+    def before(self, is_polygon):
+        """Returns clauses before a figure; one of wiring never stands directly before a polygon."""
         status = [f'+ {self.beginning()}'] if self.dice.chance(0.4) else []
         shape = ['+ SHAPE STRIPE'] if self.dice.chance(0.3) else []
         mask = self.mask()
-        return [*status, *shape, *(['+', *mask] if mask else [])]
+        others = [*shape, *(['+', *mask] if mask else [])]
+        return others if is_polygon and not others else [*status, *others]
 
-    def corners(self, wire):
-        """Returns two corners of a segment without extensions."""
+    @staticmethod
+    def rect_of(wire):
+        """Returns the rectangle of a segment without extensions."""
         (left, lower), (right, upper) = sorted((wire.start, wire.end))
         half = wire.width // 2
-        if lower == upper:
-            lower, upper = lower - half, upper + half
-        else:
-            left, right = left - half, right + half
+        return (left, lower - half, right, upper + half) if lower == upper else (left - half, lower, right + half, upper)
+
+    def corners(self, rect):
+        """Returns two corners of a rectangle."""
+        left, lower, right, upper = rect
         pair = [(left, upper), (right, lower)] if self.dice.chance(0.3) else [(left, lower), (right, upper)]
         return [self.point(corner, None, None) for corner in pair]

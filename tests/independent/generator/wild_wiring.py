@@ -1,4 +1,8 @@
 """Makes wiring of all forms of the wide profile by chance, whatever metal it meets."""
+from answer.geometry import ORIENTATIONS
+from answer.polygon import slabs_of
+from answer.words import NotRead
+from .polygons import wild_walk
 from .wide_forms import has
 
 
@@ -31,18 +35,43 @@ class WildWiring:
 
     def figure(self):
         """Returns a rectangle of any sides, or a via at some points."""
-        words, vias = ['\n ', *self.paths.before()], self.writer.good_vias
+        words, vias = ['\n '], self.writer.good_vias
         if vias and self.dice.chance(0.5):
-            words += ['+ VIA', self.dice.one_of(vias).name, *(['N'] if self.dice.chance(0.2) else [])]
+            words += [*self.paths.before(False), '+ VIA', *self.via(self.dice.one_of(vias))]
             words += [self.writer.point(self.place()) for _ in range(self.dice.between(1, 3))]
+        elif has(self.dice, 'polygon of a DEF', 0.4):
+            words += [*self.paths.before(True), '+ POLYGON', self.layers[self.dice.one_of(self.levels)].name, self.writer.polygon(self.walk())]
         else:
             x, y = self.place()
             width, height = self.dice.between(1, 2 * self.pitch), self.dice.between(1, 2 * self.pitch)
             if self.dice.chance(0.3):
                 width, height = self.dice.one_of(((1, 3), (3, 1), (2, 1), (1, 2), (1, 5), (5, 1)))
             height = max(height, 2 if width == 1 else 1)  # (a square of one unit is no wire)
-            words += ['+ RECT', self.layers[self.dice.one_of(self.levels)].name, self.writer.corners((x, y, x + width, y + height))]
+            words += [*self.paths.before(False), '+ RECT', self.layers[self.dice.one_of(self.levels)].name, self.writer.corners((x, y, x + width, y + height))]
         return ' '.join(words)
+
+    def walk(self):
+        """Returns the points of a polygon with slabs, of which none is a square of one unit."""
+        x, y = self.place()
+        while True:
+            points = wild_walk(self.dice, 2 * self.pitch)
+            try:
+                slabs = slabs_of(points)
+            except NotRead:
+                continue
+            if all(right - left > 1 or upper - lower > 1 for left, lower, right, upper in slabs):
+                return [(x + across, y + up) for across, up in points]
+
+    def via(self, via):
+        """Returns the words of a via in any orientation."""
+        return [via.name] + ([self.dice.one_of(ORIENTATIONS if self.paths.turns(0.7) else ('N',))] if self.dice.chance(0.3) else [])
+
+    def tapering(self):
+        """Returns what may stand behind the layer of a path of NETS."""
+        name = self.writer.rules.name(False)
+        if name and has(self.dice, 'nondefault rule', 0.3):
+            return ['TAPERRULE', name]
+        return ['TAPER'] if self.dice.chance(0.2) else []
 
     def path(self):
         """Returns a path of some items."""
@@ -51,6 +80,8 @@ class WildWiring:
         if self.special:
             width = 2 * self.dice.below(1 + self.pitch // 4)
             words.append(str(width))
+        else:
+            words += self.tapering()
         words.append(self.paths.point(at, None, self.extension()))
         for _ in range(self.dice.below(7)):
             item, layer, at = self.item(layer, at, width)
@@ -66,8 +97,7 @@ class WildWiring:
         vias = [via for via in self.writer.good_vias if layer in via.joins]
         if vias and self.dice.chance(0.3):
             via = self.dice.one_of(vias)
-            words = [via.name] + (['N'] if self.dice.chance(0.2) else [])
-            return words + self.array(), sum(via.joins) - layer, at
+            return self.via(via) + self.array(), sum(via.joins) - layer, at
         if not self.special and has(self.dice, 'virtual step', 0.3):
             to = at[0] + self.length(), at[1] + self.length()
             return ['VIRTUAL', self.paths.point(to, at, None)], layer, to

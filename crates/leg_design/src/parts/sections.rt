@@ -1,8 +1,8 @@
-//! The sections of a DEF, each of which appears at most once (LEF/DEF 5.8, "DEF Syntax").
+//! The sections of a DEF before those of nets, each of which appears at most once (LEF/DEF 5.8, "DEF Syntax").
 
 ghost use Rattle.std.specs.Prelude.{◌≡◌};
 ghost use Rattle.leg_lex.specs.Words.{Reads};
-ghost use Rattle.leg_grammar.specs.Def.Parts.{net_scope, vias_form, components_form, pins_form, blockages_form, nets_form, special_form};
+ghost use Rattle.leg_grammar.specs.Def.Parts.{parts_scope, vias_form, components_form, pins_form, blockages_form};
 
 use crate::parts::{Parts, once};
 use leg_design_common::NetScope;
@@ -10,7 +10,6 @@ use leg_design_floorplan::blockage::blockages;
 use leg_design_floorplan::component::components;
 use leg_design_floorplan::pin::pins;
 use leg_design_floorplan::via::vias;
-use leg_design_nets::nets;
 use leg_lex::{Cursor, ReadFault};
 use std::alloc::Allocator;
 use std::mem::replace;
@@ -80,48 +79,19 @@ impl<'a, A: Allocator + Copy> Parts<'a, A> {
         Ok(())
     }
 
-    /// The section `NETS`, once.
-    #[tactic(auto, unfolding(leg_grammar::specs::Def::Parts::nets_form))]
-    pub(crate) fn nets_form(
-        &mut self,
-        alloc: A,
-        words: &mut Cursor<'_, 'a>,
-    ) -> Result<(), ReadFault>
-        ensures { Reads (λ _. self.new) result words.new (nets_form self.old words.old) }
-    {
-        once(self.has.nets, words)?;
-        let nets = nets(alloc, &self.net_scope(), false, &self.special, words)?;
-        drop(replace(&mut self.nets, nets));
-        self.has.nets = true;
-        Ok(())
-    }
-
-    /// The section `SPECIALNETS`, once.
-    #[tactic(auto, unfolding(leg_grammar::specs::Def::Parts::special_form))]
-    pub(crate) fn special_form(
-        &mut self,
-        alloc: A,
-        words: &mut Cursor<'_, 'a>,
-    ) -> Result<(), ReadFault>
-        ensures { Reads (λ _. self.new) result words.new (special_form self.old words.old) }
-    {
-        once(self.has.special, words)?;
-        let special = nets(alloc, &self.net_scope(), true, &self.nets, words)?;
-        drop(replace(&mut self.special, special));
-        self.has.special = true;
-        Ok(())
-    }
-
     // What pins and nets name parts of.
-    fn net_scope<'k>(&'k self) -> NetScope<'k, 'a, A>
-        ensures { result ≡ net_scope self.now.profile self.now.design }
+    pub(super) fn net_scope<'k>(&'k self) -> NetScope<'k, 'a, A>
+        ensures { result ≡ parts_scope self.now }
     {
         NetScope {
             profile: self.profile,
             library: self.library,
             vias: &self.vias,
+            turned: &self.turned,
             components: &self.components,
             pins: &self.pins,
+            rules: &self.rules,
+            rule: None,
         }
     }
 }

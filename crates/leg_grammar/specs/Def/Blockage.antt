@@ -5,8 +5,10 @@ use Rattle.leg_lex.specs.Until.{until}
 use Rattle.leg_geom.specs.Plane.{RectModel}
 use Rattle.leg_lib_records.specs.Records.{LibraryModel}
 use Rattle.leg_grammar.specs.declared.profile.Profile.{Profile}
+use Rattle.leg_grammar.specs.Profiles.{is_wide}
 use Rattle.leg_grammar.specs.Def.Guard.{when}
 use Rattle.leg_grammar.specs.Def.Placement.{rect_at}
+use Rattle.leg_grammar.specs.Def.Polygon.{polygon_at}
 use Rattle.leg_grammar.specs.Def.Layers.{layer_named_at}
 use Rattle.leg_grammar.specs.Def.Section.{section_at}
 use Rattle.leg_grammar.specs.Def.BlockageClause.{blockage_clause}
@@ -30,24 +32,39 @@ one_rect rects words = do
   rect ← rect_at start.1
   Some (rects ++ rect.0 ∷ [], rect.1)
 
+-- the slabs of one more POLYGON points
+unfoldable pub one_polygon : List RectModel → Words → Option (List RectModel × Words)
+one_polygon rects words = do
+  start ← keyword_at (codes "POLYGON") words
+  slabs ← polygon_at start.1
+  Some (rects ++ slabs.0, slabs.1)
+
+-- a polygon that is read comes next
+abbrev pub at_polygon : Profile → Words → Bool
+at_polygon profile words = is_wide profile && is_at (codes "POLYGON") words
+
+-- one more RECT, or in the wide profile POLYGON
+unfoldable pub one_area : Profile → List RectModel → Words → Option (List RectModel × Words)
+one_area profile rects words = if at_polygon profile words then one_polygon rects words else one_rect rects words
+
 abbrev pub at_semicolon : Words → Bool
 at_semicolon words = is_at (codes ";") words
 
--- one rectangle at least, and then the semicolon (59)
-unfoldable pub rects_at : Words → Option (List RectModel × Words)
-rects_at words = do
-  first ← one_rect [] words
-  rects ← until at_semicolon one_rect first.0 first.1
+-- one rectangle or polygon at least, and then the semicolon (59)
+unfoldable pub rects_at : Profile → Words → Option (List RectModel × Words)
+rects_at profile words = do
+  first ← one_area profile [] words
+  rects ← until at_semicolon (one_area profile) first.0 first.1
   end ← mark_at 59 rects.1
   Some (rects.0, end.1)
 
--- - LAYER NAME or - PLACEMENT, any clauses, and rectangles (45 is the dash): the blockage, and whether its clauses keep it
+-- - LAYER NAME or - PLACEMENT, any clauses, and rectangles and polygons (45 is the dash): the blockage, and whether its clauses keep it
 unfoldable pub blockage_at : Profile → LibraryModel → Words → Option ((BlockageModel × Bool) × Words)
 blockage_at profile library words = do
   dash ← mark_at 45 words
   layer ← blocked_layer_at library dash.1
   kept ← until at_no_plus (blockage_clause profile layer.0) true layer.1
-  rects ← rects_at kept.1
+  rects ← rects_at profile kept.1
   Some ((record { layer = layer.0; rects = rects.0 }, kept.0), rects.1)
 
 -- a blockage on a layer without metal is left out

@@ -1,6 +1,6 @@
--- The rectangles of a generated via: the lower plate, the cuts row by row, and the upper plate (LEF/DEF 5.8, "Vias"; that an array with an odd
--- side, and too many rectangles, are refused is lefdef's own rule).
-use Rattle.std.specs.Prelude.{ℕ, zero, suc, ℤ, pos, Bool, ◌&&◌, ◌+◌, ◌+ℤ◌, ◌-ℤ◌, ◌*ℤ◌, int_lt, nat_le, if◌then◌else◌, List, [], ◌∷◌, length, Option, None, Some}
+-- The rectangles of a generated via: the lower plate, the cuts row by row, and the upper plate (LEF/DEF 5.8, "Vias", "Via"; that an array with an
+-- odd side, and too many rectangles, are refused is lefdef's own rule).
+use Rattle.std.specs.Prelude.{ℕ, zero, suc, ℤ, pos, Bool, ◌&&◌, ◌+◌, ◌+ℤ◌, ◌-ℤ◌, ◌*ℤ◌, int_lt, nat_le, if◌then◌else◌, List, [], ◌∷◌, ◌++◌, length, Option, None, Some}
 use Rattle.std.specs.List.{list_any, list_all}
 use Rattle.leg_lex.specs.Words.{Words, ◌>>=◌}
 use Rattle.leg_lex.specs.Until.{over}
@@ -12,7 +12,6 @@ use Rattle.leg_grammar.specs.declared.generated_via.CutArray.{CutArray}
 use Rattle.leg_grammar.specs.declared.generated_via.GeneratedVia.{GeneratedVia}
 use Rattle.leg_grammar.specs.Def.Guard.{when, unless, is_within}
 use Rattle.leg_grammar.specs.Def.Clause.{is_clause}
-use Rattle.leg_grammar.specs.Def.Layers.{with_rect}
 use Rattle.leg_grammar.specs.Def.GeneratedVia.{is_drawn, generated_in}
 use Rattle.leg_grammar.specs.Def.CutPattern.{PatternRows, pattern_in, has_cut}
 use Rattle.leg_design_records.specs.declared.limits.TheConstants.{PART_LIMIT}
@@ -77,13 +76,13 @@ cut_sides array cuts row column = record {
 }
 
 -- one more rectangle, where it is one
-abbrev pub with_area : LibraryModel → ℕ → Option RectModel → List Shape → Option (List Shape)
-with_area library layer None shapes = None
-with_area library layer (Some rect) shapes = Some (with_rect library layer rect shapes)
+abbrev pub with_area : ℕ → Option RectModel → List Shape → Option (List Shape)
+with_area layer None shapes = None
+with_area layer (Some rect) shapes = Some (shapes ++ record { layer = layer; rect = rect } ∷ [])
 
 -- one more plate
-unfoldable pub with_plate : LibraryModel → RectModel → List Shape → Plate → Option (List Shape)
-with_plate library array shapes plate = with_area library plate.layer (area_of (plate_sides array plate)) shapes
+unfoldable pub with_plate : RectModel → List Shape → Plate → Option (List Shape)
+with_plate array shapes plate = with_area plate.layer (area_of (plate_sides array plate)) shapes
 
 -- the rectangle round the cuts, what is said of them, and the pattern that says which of them there are, if there is one
 pub record PlacedCuts : Type 0 where
@@ -92,9 +91,9 @@ pub record PlacedCuts : Type 0 where
   pub pattern : Option (List PatternRows)
 
 -- one more cut, in this row, if it is there
-unfoldable pub with_cut : LibraryModel → PlacedCuts → ℕ → List Shape → ℕ → Option (List Shape)
-with_cut library placed row shapes column =
-    if has_cut placed.pattern row column then with_area library placed.cuts.layer (area_of (cut_sides placed.array placed.cuts row column)) shapes
+unfoldable pub with_cut : PlacedCuts → ℕ → List Shape → ℕ → Option (List Shape)
+with_cut placed row shapes column =
+    if has_cut placed.pattern row column then with_area placed.cuts.layer (area_of (cut_sides placed.array placed.cuts row column)) shapes
     else Some shapes
 
 -- so many numbers one after the other, from the first on
@@ -103,16 +102,16 @@ numbers_from first zero = []
 numbers_from first (suc more) = first ∷ numbers_from (first + 1) more
 
 -- one more row of cuts
-unfoldable pub with_row : LibraryModel → PlacedCuts → List Shape → ℕ → Option (List Shape)
-with_row library placed shapes row = over (with_cut library placed row) shapes (numbers_from 0 placed.cuts.columns)
+unfoldable pub with_row : PlacedCuts → List Shape → ℕ → Option (List Shape)
+with_row placed shapes row = over (with_cut placed row) shapes (numbers_from 0 placed.cuts.columns)
 
 -- the rectangles of the whole via
-unfoldable pub array_shapes : LibraryModel → Option (List PatternRows) → GeneratedVia → Option (List Shape)
-array_shapes library pattern via = do
+unfoldable pub array_shapes : Option (List PatternRows) → GeneratedVia → Option (List Shape)
+array_shapes pattern via = do
   array ← array_of via.cuts
-  low ← with_plate library array [] via.low
-  cuts ← over (with_row library (record { array = array; cuts = via.cuts; pattern = pattern })) low (numbers_from 0 via.cuts.rows)
-  with_plate library array cuts via.high
+  low ← with_plate array [] via.low
+  cuts ← over (with_row (record { array = array; cuts = via.cuts; pattern = pattern })) low (numbers_from 0 via.cuts.rows)
+  with_plate array cuts via.high
 
 -- how many rectangles the vias have
 abbrev pub shape_count : List ViaModel → ℕ
@@ -130,6 +129,6 @@ generated_shapes library vias clauses = do
   each ← when (list_all is_clause clauses)
   via ← generated_in library clauses
   pattern ← pattern_in clauses
-  shapes ← array_shapes library pattern via
+  shapes ← array_shapes pattern via
   room ← when (is_room_for_shapes vias (length shapes))
   Some shapes

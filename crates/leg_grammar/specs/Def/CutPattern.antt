@@ -1,6 +1,6 @@
 -- The pattern of a generated via, which says which cuts of its array there are (LEF/DEF 5.8, "Vias", PATTERN; that nothing stands 0 times, and how
 -- many rows may be told at once, are lefdef's own rules).
-use Rattle.std.specs.Prelude.{ℕ, Bool, true, false, ◌&&◌, ◌==◌, ◌+◌, ◌-◌, ◌*◌, ◌/◌, ◌%◌, nat_lt, nat_le, if◌then◌else◌, List, [], ◌∷◌, ◌++◌, Option, None, Some, is_none, codes}
+use Rattle.std.specs.Prelude.{ℕ, Bool, true, false, ◌&&◌, ◌==◌, ◌+◌, ◌-◌, ◌*◌, ◌/◌, ◌%◌, nat_lt, nat_le, if◌then◌else◌, List, [], ◌∷◌, ◌++◌, length, Option, None, Some, is_none, codes}
 use Rattle.std.specs.List.{slice_split}
 use Rattle.leg_lex.specs.Words.{Words, ◌>>=◌, keyword_at, name_at, nothing_at}
 use Rattle.leg_lex.specs.Until.{over}
@@ -66,9 +66,10 @@ abbrev pub is_whole_row : NextDigit → Bool
 is_whole_row Once = true
 is_whole_row next = false
 
--- the digits of a row, from left to right
+-- the digits of a row, from left to right: one at least
 unfoldable pub row_digits_of : List ℕ → Option (List DigitRun)
 row_digits_of bytes = do
+  some ← when (nat_le 1 (length bytes))
   row ← over one_byte (record { runs = []; next = Once }) bytes
   end ← when (is_whole_row row.next)
   Some row.runs

@@ -11,7 +11,7 @@ use Rattle.leg_grammar.specs.Def.Guard.{when, unless}
 use Rattle.leg_grammar.specs.Def.DroppedRow.{have_site}
 use Rattle.leg_grammar.specs.Def.LonePins.{NetLists, with_lone_pins}
 use Rattle.leg_design_records.specs.Records.{DesignModel, terminal_count}
-use Rattle.leg_grammar.specs.Def.Parts.{DesignParts, no_parts, divider_form, bus_form, name_form, units_form, die_form, row_form, track_form, vias_form, components_form, pins_form, blockages_form, nets_form, special_form}
+use Rattle.leg_grammar.specs.Def.Parts.{DesignParts, no_parts, divider_form, bus_form, name_form, units_form, die_form, row_form, track_form, rules_form, vias_form, components_form, pins_form, blockages_form, nets_form, special_form}
 use Rattle.leg_grammar.specs.Def.SkippedForms.{past_def_form}
 
 -- a form that comes before the sections
@@ -24,7 +24,8 @@ header_form parts words =
     else (if is_at (codes "DIEAREA") words then die_form parts words
     else (if is_at (codes "ROW") words then row_form parts words
     else (if is_at (codes "TRACKS") words then track_form parts words
-    else (past_def_form parts.profile words >>= λ form. Some (parts, form.1))))))))
+    else (if is_at (codes "NONDEFAULTRULES") words then rules_form parts.profile parts words
+    else (past_def_form parts.profile words >>= λ form. Some (parts, form.1)))))))))
 
 -- one form
 unfoldable pub def_form_at : DesignParts → Words → Option (DesignParts × Words)

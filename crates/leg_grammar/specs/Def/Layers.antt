@@ -1,5 +1,5 @@
 -- Layers that are named, and rectangles on them (that a rectangle on a layer without metal is dropped is lefdef's own rule).
-use Rattle.std.specs.Prelude.{ℕ, if◌then◌else◌, List, [], ◌∷◌, ◌++◌, Option, Some}
+use Rattle.std.specs.Prelude.{ℕ, fold, if◌then◌else◌, List, [], ◌∷◌, ◌++◌, Option, Some}
 use Rattle.leg_lex.specs.Words.{Words, ◌>>=◌, name_at}
 use Rattle.leg_lex.specs.NameLookup.{place_of}
 use Rattle.leg_geom.specs.Plane.{RectModel}
@@ -18,3 +18,7 @@ layer_named_at library words = do
 abbrev pub with_rect : LibraryModel → ℕ → RectModel → List Shape → List Shape
 with_rect library number rect shapes =
     if has_metal library number then shapes ++ record { layer = number; rect = rect } ∷ [] else shapes
+
+-- rectangles on the same layer, one after the other
+abbrev pub with_rects : LibraryModel → ℕ → List RectModel → List Shape → List Shape
+with_rects library number rects shapes = fold (λ before rect. with_rect library number rect before) shapes rects

@@ -3,11 +3,13 @@ use Rattle.std.specs.Option.{option_or}
 use Rattle.std.specs.Prelude.{ℕ, pos, Bool, true, false, ◌==◌, List, [], ◌∷◌, ◌++◌, Option, None, Some, is_some, codes}
 use Rattle.leg_lex.specs.Words.{Words, ◌>>=◌}
 use Rattle.leg_geom.specs.Plane.{RectModel}
-use Rattle.leg_lib_records.specs.Records.{LibraryModel}
+use Rattle.leg_lib_records.specs.Records.{LibraryModel, RuleModel}
 use Rattle.leg_grammar.specs.declared.profile.Profile.{Profile}
 use Rattle.leg_grammar.specs.declared.profile.Profile.TheVariants.{Narrow, Wide}
 use Rattle.leg_grammar.specs.Def.Guard.{when, unless}
+use Rattle.leg_grammar.specs.declared.turned_via.TurnedVia.{TurnedVia}
 use Rattle.leg_grammar.specs.Def.NetScope.{NetScopeModel}
+use Rattle.leg_grammar.specs.Def.TurnedVia.{TurnedVias, turned_vias_at}
 use Rattle.leg_grammar.specs.Def.Header.{word_after, design_name_at, units_at}
 use Rattle.leg_grammar.specs.Def.Die.{die_at}
 use Rattle.leg_grammar.specs.Def.Row.{row_at}
@@ -18,6 +20,8 @@ use Rattle.leg_grammar.specs.Def.Component.{components_at}
 use Rattle.leg_grammar.specs.Def.Pin.{pins_at}
 use Rattle.leg_grammar.specs.Def.Blockage.{blockages_at}
 use Rattle.leg_grammar.specs.Def.Net.{nets_at}
+use Rattle.leg_grammar.specs.Def.Rule.{rules_at, rules_of}
+use Rattle.leg_grammar.specs.Def.SkippedForms.{past_def_section}
 use Rattle.leg_design_records.specs.Records.{DesignModel}
 
 -- Which of the forms that appear at most once have appeared: DESIGN, UNITS, DIEAREA and the sections. Of DIVIDERCHAR and
@@ -34,12 +38,15 @@ pub record Appearances : Type 0 where
   pub special : Bool
 
 -- What the forms before gave: a design, whose name is empty until DESIGN has appeared, and its die area a point until DIEAREA has. The
--- profile in which they are read stays the same. In the wide profile, the sites of rows that were dropped.
+-- profile in which they are read stays the same. In the wide profile, the sites of rows that were dropped, nondefault rules, and which vias
+-- are turned.
 pub record DesignParts : Type 0 where
   pub profile : Profile
   pub has : Appearances
   pub design : DesignModel
   pub dropped : List ℕ
+  pub rules : List RuleModel
+  pub turned : List TurnedVia
 
 -- the point 0 0
 abbrev pub no_die : RectModel
@@ -66,11 +73,41 @@ no_parts profile library = record {
     special = [];
   };
   dropped = [];
+  rules = [];
+  turned = [];
 }
 
--- what pins and nets may name
+-- what pins and nets may name, where there are no nondefault rules and no via is turned
 abbrev pub net_scope : Profile → DesignModel → NetScopeModel
-net_scope profile design = record { profile = profile; library = design.library; vias = design.vias; components = design.components; pins = design.pins }
+net_scope profile design = record {
+  profile = profile;
+  library = design.library;
+  vias = design.vias;
+  turned = [];
+  components = design.components;
+  pins = design.pins;
+  rules = [];
+  rule = None;
+}
+
+-- the same of what was read so far, with the vias that are turned and with the nondefault rules
+abbrev pub parts_scope : DesignParts → NetScopeModel
+parts_scope parts = record (net_scope parts.profile parts.design) { turned = parts.turned; rules = parts.rules }
+
+-- what vias there are besides those before, and which of them are turned: a section VIAS can't come any more
+abbrev pub with_vias : TurnedVias → DesignParts → DesignParts
+with_vias made parts = record parts { has = record (parts.has) { vias = true }; design = record (parts.design) { vias = made.vias }; turned = made.turned }
+
+-- what the forms before gave, with the vias that these words turn
+unfoldable pub with_turned_vias : DesignParts → Words → Option DesignParts
+with_turned_vias parts words = do
+  made ← turned_vias_at parts.design.library (record { vias = parts.design.vias; turned = parts.turned }) words
+  Some (with_vias made.0 parts)
+
+-- the same in the wide profile alone
+unfoldable pub turned_parts : Profile → DesignParts → Words → Option DesignParts
+turned_parts Narrow parts words = None
+turned_parts (Wide masks soft) parts words = with_turned_vias parts words
 
 -- DIVIDERCHAR word ; once
 unfoldable pub divider_form : DesignParts → Words → Option (DesignParts × Words)
@@ -129,6 +166,13 @@ track_form parts words = do
   track ← track_at parts.profile parts.design.library words
   Some (record parts { design = record (parts.design) { tracks = parts.design.tracks ++ track.0 ∷ [] } }, track.1)
 
+-- A section of nondefault rules is read past in each profile. In the wide one its rules are kept, in place of those of a section before.
+unfoldable pub rules_form : Profile → DesignParts → Words → Option (DesignParts × Words)
+rules_form Narrow parts words = past_def_section words >>= λ section. Some (parts, section.1)
+rules_form (Wide masks soft) parts words = do
+  section ← past_def_section words
+  Some (record parts { rules = rules_of (rules_at parts.design.library words) }, section.1)
+
 -- each section appears at most once
 unfoldable pub vias_form : DesignParts → Words → Option (DesignParts × Words)
 vias_form parts words = do
@@ -145,7 +189,7 @@ components_form parts words = do
 unfoldable pub pins_form : DesignParts → Words → Option (DesignParts × Words)
 pins_form parts words = do
   once ← unless parts.has.pins
-  pins ← pins_at (net_scope parts.profile parts.design) words
+  pins ← pins_at (parts_scope parts) words
   Some (record parts { has = record (parts.has) { pins = true }; design = record (parts.design) { pins = pins.0 } }, pins.1)
 
 unfoldable pub blockages_form : DesignParts → Words → Option (DesignParts × Words)
@@ -154,14 +198,25 @@ blockages_form parts words = do
   blockages ← blockages_at parts.profile parts.design.library words
   Some (record parts { has = record (parts.has) { blockages = true }; design = record (parts.design) { blockages = blockages.0 } }, blockages.1)
 
+-- the section NETS under the vias before
+unfoldable pub nets_section_form : DesignParts → Words → Option (DesignParts × Words)
+nets_section_form parts words = do
+  nets ← nets_at (parts_scope parts) false parts.design.special words
+  Some (record parts { has = record (parts.has) { nets = true }; design = record (parts.design) { nets = nets.0 } }, nets.1)
+
+-- the same; and where that says nothing, with the vias that its words turn
 unfoldable pub nets_form : DesignParts → Words → Option (DesignParts × Words)
 nets_form parts words = do
   once ← unless parts.has.nets
-  nets ← nets_at (net_scope parts.profile parts.design) false parts.design.special words
-  Some (record parts { has = record (parts.has) { nets = true }; design = record (parts.design) { nets = nets.0 } }, nets.1)
+  option_or (nets_section_form parts words) (turned_parts parts.profile parts words >>= λ turned. nets_section_form turned words)
+
+-- SPECIALNETS, in the same way
+unfoldable pub special_section_form : DesignParts → Words → Option (DesignParts × Words)
+special_section_form parts words = do
+  special ← nets_at (parts_scope parts) true parts.design.nets words
+  Some (record parts { has = record (parts.has) { special = true }; design = record (parts.design) { special = special.0 } }, special.1)
 
 unfoldable pub special_form : DesignParts → Words → Option (DesignParts × Words)
 special_form parts words = do
   once ← unless parts.has.special
-  special ← nets_at (net_scope parts.profile parts.design) true parts.design.nets words
-  Some (record parts { has = record (parts.has) { special = true }; design = record (parts.design) { special = special.0 } }, special.1)
+  option_or (special_section_form parts words) (turned_parts parts.profile parts words >>= λ turned. special_section_form turned words)

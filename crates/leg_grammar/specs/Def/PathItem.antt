@@ -1,5 +1,6 @@
 -- The words of a path's items (LEF/DEF 5.8, "Regular Wiring Statement", "Special Wiring Statement").
 use Rattle.std.specs.Prelude.{ℕ, ℤ, Bool, true, not, ◌&&◌, ◌||◌, if◌then◌else◌, List, [], ◌∷◌, ◌++◌, Option, None, Some, codes}
+use Rattle.std.specs.Option.{option_or}
 use Rattle.std.specs.Str.{bytes_eq}
 use Rattle.leg_lex.specs.Words.{Words, ◌>>=◌, is_keyword, is_at, keyword_at, mark_at, name_at, whole_at}
 use Rattle.leg_geom.specs.Plane.{PointModel}
@@ -11,8 +12,10 @@ use Rattle.leg_grammar.specs.declared.profile.Profile.{Profile}
 use Rattle.leg_grammar.specs.declared.profile.Profile.TheVariants.{Narrow, Wide}
 use Rattle.leg_grammar.specs.Def.Guard.{unless}
 use Rattle.leg_grammar.specs.Def.Count.{count_at}
+use Rattle.leg_grammar.specs.Def.Placement.{orient_at}
 use Rattle.leg_grammar.specs.Def.ViaArray.{array_at}
 use Rattle.leg_grammar.specs.Mask.{past_mask}
+use Rattle.leg_grammar.specs.Def.Turns.{turn_number}
 use Rattle.leg_grammar.specs.Def.NetScope.{NetScopeModel, via_named}
 
 -- a number, or `*` (42) for the coordinate of the point before
@@ -64,14 +67,24 @@ rect_item words = do
 unfoldable pub past_north : Words → Option (Unit {0} × Words)
 past_north words = if is_at (codes "N") words then keyword_at (codes "N") words else Some (tt, words)
 
--- the name of a via, which denotes its number
+-- an orientation directly after a via in which it is turned: the number of the turned via
+unfoldable pub turn_of_via_at : NetScopeModel → ℕ → Words → Option (ℕ × Words)
+turn_of_via_at scope via words = do
+  orient ← orient_at words
+  number ← turn_number scope.turned via orient.0
+  Some (number, orient.1)
+
+-- a via that is not turned, also with N directly after it
+unfoldable pub upright_via_at : ℕ → Words → Option (ℕ × Words)
+upright_via_at via words = past_north words >>= λ north. Some (via, north.1)
+
+-- the name of a via, which denotes its number, or with an orientation the number of a turned via
 unfoldable pub via_at : NetScopeModel → Words → Option (ℕ × Words)
 via_at scope words = do
   name ← name_at words
   other ← unless (is_wiring_word name.0)
   via ← via_named scope name.0
-  north ← past_north name.1
-  Some (via, north.1)
+  option_or (turn_of_via_at scope via name.1) (upright_via_at via name.1)
 
 -- a via
 unfoldable pub via_item : NetScopeModel → Words → Option (Item × Words)

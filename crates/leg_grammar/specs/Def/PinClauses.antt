@@ -1,13 +1,13 @@
 -- The clauses of a pin of the design (LEF/DEF 5.8, "Pins"; what is left out is lefdef's own rule).
-use Rattle.std.specs.Prelude.{ℕ, ◌||◌, if◌then◌else◌, List, [], ◌∷◌, ◌++◌, Option, None, Some, is_some, codes}
+use Rattle.std.specs.Prelude.{ℕ, if◌then◌else◌, List, [], ◌∷◌, ◌++◌, Option, None, Some, is_some, codes}
 use Rattle.leg_lex.specs.Words.{Words, ◌>>=◌, is_at, keyword_at, name_at, word_at, nothing_at}
 use Rattle.leg_grammar.specs.Def.NetScope.{NetScopeModel}
 use Rattle.leg_grammar.specs.Def.Guard.{when, unless}
 use Rattle.leg_grammar.specs.Def.Placement.{says_place, placed_in}
 use Rattle.leg_grammar.specs.Def.Clause.{is_clause}
-use Rattle.leg_grammar.specs.Def.Layers.{with_rect}
+use Rattle.leg_grammar.specs.Def.Layers.{with_rect, with_rects}
 use Rattle.leg_design_records.specs.Records.{PortModel}
-use Rattle.leg_grammar.specs.Def.Port.{empty_port, layer_rect}
+use Rattle.leg_grammar.specs.Def.Port.{empty_port, layer_rect, layer_polygon}
 use Rattle.leg_grammar.specs.Def.PortVia.{with_via}
 
 -- what the clauses before gave: words that appear at most once, the ports that are whole, and the last port
@@ -64,6 +64,12 @@ port_rect scope parts clause = do
   on ← layer_rect scope.profile scope.library clause
   Some (record parts { last = Some (record (last_port parts) { shapes = with_rect scope.library on.0 on.1 (last_port parts).shapes }) })
 
+-- POLYGON, which adds the slabs of a polygon to the last port
+unfoldable pub port_polygon : NetScopeModel → PinClauses → Words → Option PinClauses
+port_polygon scope parts clause = do
+  on ← layer_polygon scope.profile scope.library clause
+  Some (record parts { last = Some (record (last_port parts) { shapes = with_rects scope.library on.0 on.1 (last_port parts).shapes }) })
+
 -- VIA, which adds the rectangles of a via to the last port
 unfoldable pub port_via : NetScopeModel → PinClauses → Words → Option PinClauses
 port_via scope parts clause = do
@@ -108,5 +114,6 @@ pin_clause scope parts clause =
     else (if is_at (codes "LAYER") clause then port_rect scope parts clause
     else (if says_place clause then port_place parts clause
     else (if is_at (codes "VIA") clause then port_via scope parts clause
-    else (if is_at (codes "POLYGON") clause || is_at (codes "MASK") clause then None
-    else (when (is_clause clause) >>= λ _. Some parts))))))))
+    else (if is_at (codes "POLYGON") clause then port_polygon scope parts clause
+    else (if is_at (codes "MASK") clause then None
+    else (when (is_clause clause) >>= λ _. Some parts)))))))))

@@ -15,9 +15,9 @@ is_past_statement words =
 -- sections without effect, up to END and the same word
 abbrev pub is_past_section : Words → Bool
 is_past_section words =
-    is_at (codes "PROPERTYDEFINITIONS") words || is_at (codes "NONDEFAULTRULES") words || is_at (codes "REGIONS") words
-    || is_at (codes "FILLS") words || is_at (codes "SLOTS") words || is_at (codes "STYLES") words
-    || is_at (codes "SCANCHAINS") words || is_at (codes "GROUPS") words || is_at (codes "PINPROPERTIES") words
+    is_at (codes "PROPERTYDEFINITIONS") words || is_at (codes "REGIONS") words || is_at (codes "FILLS") words
+    || is_at (codes "SLOTS") words || is_at (codes "STYLES") words || is_at (codes "SCANCHAINS") words
+    || is_at (codes "GROUPS") words || is_at (codes "PINPROPERTIES") words
 
 unfoldable pub past_def_section : Words → Option (Unit {0} × Words)
 past_def_section [] = None

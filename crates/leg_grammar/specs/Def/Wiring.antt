@@ -7,12 +7,14 @@ use Rattle.leg_lex.specs.NameLookup.{place_of}
 use Rattle.leg_lib_records.specs.Records.{LibraryModel, layer_names}
 use Rattle.leg_grammar.specs.declared.profile.Profile.{Profile}
 use Rattle.leg_grammar.specs.declared.profile.Profile.TheVariants.{Narrow, Wide}
+use Rattle.leg_grammar.specs.declared.path_width.PathWidth.{PathWidth}
+use Rattle.leg_grammar.specs.declared.path_width.PathWidth.TheVariants.{OfLayers, OfRule, Written}
 use Rattle.leg_design_records.specs.declared.records.Wire.{Wire}
 use Rattle.leg_grammar.specs.Def.Guard.{when}
 use Rattle.leg_design_records.specs.Layers.{is_routing}
 use Rattle.leg_design_records.specs.Wires.{is_even}
 use Rattle.leg_grammar.specs.Def.Count.{count_at}
-use Rattle.leg_grammar.specs.Def.NetScope.{NetScopeModel}
+use Rattle.leg_grammar.specs.Def.NetScope.{NetScopeModel, rule_named}
 use Rattle.leg_grammar.specs.Def.Path.{path_wires}
 use Rattle.leg_grammar.specs.Def.PathItem.{first_point_at, one_item, at_path_end}
 
@@ -24,7 +26,7 @@ routing_at library words = do
   routes ← when (is_routing library number)
   Some (number, name.1)
 
--- TAPER has no effect
+-- TAPER: the width of the layers
 unfoldable pub past_taper : Words → Option (Unit {0} × Words)
 past_taper words = if is_at (codes "TAPER") words then keyword_at (codes "TAPER") words else Some (tt, words)
 
@@ -46,23 +48,46 @@ past_shape before words = do
   word ← word_at start.1
   Some (tt, word.1)
 
--- what comes between a path's layer and its first point: in SPECIALNETS its width
-unfoldable pub written_at : Bool → Words → Option (Option ℤ × Words)
-written_at special words =
+-- a nondefault rule, by its number
+unfoldable pub rule_at : NetScopeModel → Words → Option (ℕ × Words)
+rule_at scope words = do
+  name ← name_at words
+  rule ← rule_named scope name.0
+  Some (rule, name.1)
+
+-- the width of a path that names no other: that of the rule of its entry, if there is one
+abbrev pub entry_width : Option ℕ → PathWidth
+entry_width None = OfLayers
+entry_width (Some rule) = OfRule rule
+
+-- TAPER or TAPERRULE rule, if one is written; without them the rule of the entry. The narrow profile knows no rules.
+unfoldable pub taper_at : Profile → NetScopeModel → Words → Option (PathWidth × Words)
+taper_at Narrow scope words = past_taper words >>= λ taper. Some (OfLayers, taper.1)
+taper_at (Wide masks soft) scope words =
+    if is_at (codes "TAPERRULE") words then (do
+      start ← keyword_at (codes "TAPERRULE") words
+      rule ← rule_at scope start.1
+      Some (OfRule rule.0, rule.1))
+    else (if is_at (codes "TAPER") words then (keyword_at (codes "TAPER") words >>= λ taper. Some (OfLayers, taper.1))
+    else Some (entry_width scope.rule, words))
+
+-- what comes between a path's layer and its first point: in SPECIALNETS its width, and in NETS its rule
+unfoldable pub path_width_at : NetScopeModel → Bool → Words → Option (PathWidth × Words)
+path_width_at scope special words =
     if special then (do
       width ← written_width_at words
       shapes ← until at_no_shape past_shape tt width.1
-      Some (Some width.0, shapes.1))
-    else (past_taper words >>= λ taper. Some (None, taper.1))
+      Some (Written width.0, shapes.1))
+    else taper_at scope.profile scope words
 
 -- a path, from its layer to its last item
 unfoldable pub path_at : NetScopeModel → Bool → Words → Option (List Wire × Words)
 path_at scope special words = do
   layer ← routing_at scope.library words
-  written ← written_at special layer.1
-  first ← first_point_at written.1
+  width ← path_width_at scope special layer.1
+  first ← first_point_at width.1
   items ← until at_path_end (one_item scope special) [] first.1
-  wires ← path_wires scope written.0 layer.0 first.0.0 first.0.1 items.0
+  wires ← path_wires scope width.0 layer.0 first.0.0 first.0.1 items.0
   Some (wires, items.1)
 
 abbrev pub at_no_new : Words → Bool

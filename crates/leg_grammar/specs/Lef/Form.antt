@@ -1,44 +1,15 @@
--- The forms of a LEF text (LEF/DEF 5.8, "LEF Syntax"; what is read past is lefdef's own rule).
-use Rattle.std.specs.Prelude.{ℕ, Bool, true, ◌||◌, if◌then◌else◌, List, [], ◌∷◌, Option, Some, codes}
-use Rattle.leg_lex.specs.Words.{Words, ◌>>=◌, is_keyword, is_at, next_at, keyword_at, name_at, end_at, end_of, nothing_at}
+-- The forms of a LEF text (LEF/DEF 5.8, "LEF Syntax").
+use Rattle.std.specs.Prelude.{Bool, true, if◌then◌else◌, [], ◌∷◌, Option, Some, codes}
+use Rattle.leg_lex.specs.Words.{Words, ◌>>=◌, is_keyword, is_at, end_at, nothing_at}
 use Rattle.leg_lex.specs.Until.{until}
-use Rattle.leg_lex.specs.Past.{past, past_extension}
-use Rattle.leg_lex.specs.Statements.{statement_at}
 use Rattle.leg_lib_records.specs.Records.{RawLibraryModel, empty_library}
 use Rattle.leg_grammar.specs.declared.profile.Profile.{Profile}
 use Rattle.leg_grammar.specs.Lef.Layer.{with_layer}
 use Rattle.leg_grammar.specs.Lef.Via.{with_via}
 use Rattle.leg_grammar.specs.Lef.Site.{with_site}
 use Rattle.leg_grammar.specs.Lef.MacroSkip.{with_macro}
-
--- VIARULE NAME .. END NAME and NONDEFAULTRULE NAME .. END NAME are read past
-unfoldable pub past_named : Words → Option (Unit {0} × Words)
-past_named words = do
-  start ← next_at words
-  name ← name_at start.1
-  past (end_of name.0) name.1
-
--- UNITS .. END UNITS and the like are read past
-unfoldable pub past_lef_section : List ℕ → Words → Option (Unit {0} × Words)
-past_lef_section keyword words = do
-  start ← keyword_at keyword words
-  past (end_at keyword) start.1
-
--- any other form is a statement
-unfoldable pub past_statement : Words → Option (Unit {0} × Words)
-past_statement words = do
-  statement ← statement_at words
-  Some (tt, statement.1)
-
--- what is read past
-unfoldable pub past_lef_form : Words → Option (Unit {0} × Words)
-past_lef_form words =
-    if is_at (codes "VIARULE") words || is_at (codes "NONDEFAULTRULE") words then past_named words
-    else (if is_at (codes "UNITS") words then past_lef_section (codes "UNITS") words
-    else (if is_at (codes "PROPERTYDEFINITIONS") words then past_lef_section (codes "PROPERTYDEFINITIONS") words
-    else (if is_at (codes "SPACING") words then past_lef_section (codes "SPACING") words
-    else (if is_at (codes "BEGINEXT") words then past_extension words
-    else past_statement words))))
+use Rattle.leg_grammar.specs.Lef.Rule.{is_at_rule, with_rule}
+use Rattle.leg_grammar.specs.Lef.SkippedForms.{past_lef_form}
 
 -- one form of a library, which adds to what was read before it
 unfoldable pub library_form_at : Profile → RawLibraryModel → Words → Option (RawLibraryModel × Words)
@@ -47,7 +18,8 @@ library_form_at profile library words =
     else (if is_at (codes "VIA") words then with_via profile library words
     else (if is_at (codes "SITE") words then with_site library words
     else (if is_at (codes "MACRO") words then with_macro profile library words
-    else (past_lef_form words >>= λ form. Some (library, form.1)))))
+    else (if is_at_rule profile words then with_rule profile library words
+    else (past_lef_form words >>= λ form. Some (library, form.1))))))
 
 -- What the forms before gave: a library. The profile in which they are read stays the same.
 pub record LefParts : Type 0 where

@@ -1,4 +1,4 @@
--- Vias (LEF/DEF 5.8, "Via"; which of them are good is lefdef's own rule).
+-- Vias (LEF/DEF 5.8, "Via"; which of them are good, and that one whose shapes aren't read is kept by its name, are lefdef's own rules).
 use Rattle.std.specs.Prelude.{ℕ, Bool, true, false, not, ◌&&◌, ◌||◌, if◌then◌else◌, List, [], ◌∷◌, ◌++◌, Option, None, Some, is_none, codes, drop}
 use Rattle.leg_lex.specs.Words.{Words, ◌>>=◌, is_at, keyword_at, name_at, end_of, nothing_at}
 use Rattle.leg_lex.specs.Until.{over}
@@ -7,8 +7,13 @@ use Rattle.leg_lex.specs.NameLookup.{place_of}
 use Rattle.leg_lib_records.specs.declared.raw.RawShape.{RawShape}
 use Rattle.leg_lib_records.specs.Records.{RawLibraryModel, RawViaModel, raw_layer_names, raw_via_names}
 use Rattle.leg_grammar.specs.declared.profile.Profile.{Profile}
+use Rattle.leg_grammar.specs.declared.profile.Profile.TheVariants.{Narrow, Wide}
+use Rattle.leg_grammar.specs.Profiles.{is_wide}
 use Rattle.leg_grammar.specs.Mask.{drops_masks}
-use Rattle.leg_grammar.specs.Lef.Geometry.{Drawn, nothing_drawn, drawn_rect}
+use Rattle.leg_grammar.specs.Def.GeneratedVia.{is_generated}
+use Rattle.leg_grammar.specs.Lef.Polygon.{is_read_polygon}
+use Rattle.leg_grammar.specs.Lef.Geometry.{Drawn, nothing_drawn, on_layer, drawn_rect, drawn_polygon}
+use Rattle.leg_grammar.specs.Lef.GeneratedVia.{raw_generated_shapes}
 use Rattle.leg_lib_records.specs.Joins.{is_wiring_word, join_layers}
 use Rattle.leg_lib_records.specs.GoodVia.{raw_uses, raw_parts}
 
@@ -52,20 +57,37 @@ layer_of_via library statement = do
   end ← nothing_at name.1
   place_of name.0 (raw_layer_names library)
 
--- VIARULE, POLYGON, and RECT MASK unless masks are dropped: a via of a rule or with such shapes isn't good
+-- VIARULE, POLYGON where it isn't read, and RECT MASK unless masks are dropped: a via of a rule or with such shapes isn't good
 abbrev pub spoils : Profile → Words → Bool
 spoils profile statement =
-    is_at (codes "VIARULE") statement || is_at (codes "POLYGON") statement
+    is_at (codes "VIARULE") statement || (not (is_wide profile) && is_at (codes "POLYGON") statement)
     || (not (drops_masks profile) && is_at (codes "RECT") statement && is_at (codes "MASK") (drop 1 statement))
+
+-- the shapes with those of a statement: where that can't be read, the via isn't good, and has none
+abbrev pub with_drawn : ViaParts → Option Drawn → ViaParts
+with_drawn parts None = record { drawn = record { on = parts.drawn.on; width = parts.drawn.width; shapes = [] }; is_spoilt = true }
+with_drawn parts (Some drawn) = record parts { drawn = drawn }
 
 -- one more statement
 unfoldable pub via_part : Profile → RawLibraryModel → ViaParts → Words → Option ViaParts
 via_part profile library parts statement =
     if spoils profile statement then Some (record parts { is_spoilt = true })
     else (if is_at (codes "LAYER") statement then
-    (layer_of_via library statement >>= λ number. Some (record parts { drawn = record { on = Some number; shapes = parts.drawn.shapes } }))
+    (layer_of_via library statement >>= λ number. Some (record parts { drawn = on_layer parts.drawn number }))
     else (if is_at (codes "RECT") statement then (drawn_rect profile library parts.drawn statement >>= λ drawn. Some (record parts { drawn = drawn }))
-    else Some parts))
+    else (if is_read_polygon profile statement then Some (with_drawn parts (drawn_polygon profile library parts.drawn statement)) else Some parts)))
+
+-- what the statements of a via with a VIARULE give: the shapes of the generated via, where it can be read
+abbrev pub generated_parts : Option (List RawShape) → ViaParts
+generated_parts None = record no_via_parts { is_spoilt = true }
+generated_parts (Some shapes) = record no_via_parts { drawn = record { on = None; width = None; shapes = shapes } }
+
+-- what all statements give: the wide profile takes generated vias too
+unfoldable pub via_parts_in : Profile → RawLibraryModel → List Words → Option ViaParts
+via_parts_in Narrow library statements = over (via_part Narrow library) no_via_parts statements
+via_parts_in (Wide masks soft) library statements =
+    if is_generated statements then Some (generated_parts (raw_generated_shapes library statements))
+    else over (via_part (Wide masks soft) library) no_via_parts statements
 
 abbrev pub is_good : RawLibraryModel → List ℕ → ViaParts → Bool
 is_good library name parts =
@@ -82,7 +104,7 @@ via_at profile library words = do
   start ← keyword_at (codes "VIA") words
   name ← name_at start.1
   body ← statements_at (flags_at name.1).1
-  parts ← over (via_part profile library) no_via_parts body.0
+  parts ← via_parts_in profile library body.0
   end ← end_of name.0 body.1
   Some (
     record {

@@ -1,7 +1,8 @@
-use Rattle.std.proofs.Common.{inl, inr, subst}
+use Rattle.std.proofs.Common.{◌≡◌, IfOk, inl, inr, subst}
 use Rattle.std.proofs.lemmas.Result.{IfOk-weaker}
 use Rattle.leg_grammar.specs.Lef.Library.{DenoteLibrary}
 use Rattle.leg_app_message.specs.Texts.{TextsModel}
+use Rattle.leg_app_message.specs.Message.{scale_reason, name_message}
 use Rattle.leg_app_message.proofs.scaling.scale_message.Goals as goal
 
 pub returns-in-Some : goal.returns-in-Some
@@ -26,4 +27,8 @@ returns-in-Some g c =
     c.written_message.ensures
 
 pub returns : goal.returns
-returns g c = IfOk-weaker c.name_message-2.result _ _ (λ m is. inr is) c.name_message-2.ensures
+returns g c =
+    IfOk-weaker c.name_message-2.result _ _ (λ m is. inr is)
+    (subst (λ (t : TextsModel). IfOk c.name_message-2.result (λ m. m.items ≡ name_message t.profile c.args.fault.now.name
+    (scale_reason c.args.fault.now.kind c.args.units)))
+    c.texts.view_is c.name_message-2.ensures)

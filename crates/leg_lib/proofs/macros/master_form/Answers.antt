@@ -6,4 +6,5 @@ pub push_master-requires-clause-named : goal.push_master-requires-clause-named
 push_master-requires-clause-named g c = macro_is_named c.args.profile c.args.library.now c.args.words.now _ c.in_ok-master.master c.in_ok-master.ensures
 
 pub push_master-requires-clause-refers : goal.push_master-requires-clause-refers
-push_master-requires-clause-refers g c = macro_refers c.args.profile c.args.library.now c.args.words.now _ c.in_ok-master.master c.in_ok-master.ensures
+push_master-requires-clause-refers g c =
+    macro_refers c.args.profile c.args.library.now c.layers-sound.ensures.proper.references.vias c.args.words.now _ c.in_ok-master.master c.in_ok-master.ensures

@@ -70,6 +70,22 @@ returns-in_err-vias-clause-nameless g c =
     let p = err_from_is_err_and c.from_residual-in_err-vias.result c.from_residual-in_err-vias.ensures.1 in
     rw (p.1, p.2) c.in_err-vias.ensures.nameless
 
+pub returns-in_err-rules-clause-ok : goal.returns-in_err-rules-clause-ok
+returns-in_err-rules-clause-ok g c = IfOk-from_err _ _ c.from_residual-in_err-rules.ensures.0
+
+pub returns-in_err-rules-clause-only : goal.returns-in_err-rules-clause-only
+returns-in_err-rules-clause-only g c = IfOk-from_err _ _ c.from_residual-in_err-rules.ensures.0
+
+pub returns-in_err-rules-clause-none : goal.returns-in_err-rules-clause-none
+returns-in_err-rules-clause-none g c =
+    let p = err_from_is_err_and c.from_residual-in_err-rules.result c.from_residual-in_err-rules.ensures.1 in
+    rw (p.1, p.2, ← c.self.view_is) (λ not_memory library is. c.in_err-rules.ensures.none not_memory library.rules is.rules)
+
+pub returns-in_err-rules-clause-nameless : goal.returns-in_err-rules-clause-nameless
+returns-in_err-rules-clause-nameless g c =
+    let p = err_from_is_err_and c.from_residual-in_err-rules.result c.from_residual-in_err-rules.ensures.1 in
+    rw (p.1, p.2) c.in_err-rules.ensures.nameless
+
 pub invariant_of-result : goal.invariant_of-result
 invariant_of-result g c =
     let library : LibraryModel = record {
@@ -78,6 +94,7 @@ invariant_of-result g c =
       sites = c.in_ok-sites.sites;
       vias = c.in_ok-vias.vias;
       masters = c.in_ok-masters.masters;
+      rules = c.in_ok-rules.rules;
     } in
     let at : IsLibraryAt c.args.n c.args.self.now library = rw (← c.self.view_is) (record {
       units = refl;
@@ -85,6 +102,7 @@ invariant_of-result g c =
       sites = c.in_ok-sites.ensures.ok;
       vias = c.in_ok-vias.ensures.ok;
       masters = c.in_ok-masters.ensures.ok;
+      rules = c.in_ok-rules.ensures.ok;
     }) in
     sound_at c.args.n c.args.self.now library c.requires.above c.requires.within (rw (← c.self.view_is) c.self.invariant) at
 
@@ -95,6 +113,7 @@ returns-clause-ok g c = rw (← c.self.view_is) (record {
   sites = c.in_ok-sites.ensures.ok;
   vias = c.in_ok-vias.ensures.ok;
   masters = c.in_ok-masters.ensures.ok;
+  rules = c.in_ok-rules.ensures.ok;
 })
 
 pub returns-clause-only : goal.returns-clause-only
@@ -105,6 +124,7 @@ returns-clause-only g c =
       sites = c.in_ok-sites.sites;
       vias = c.in_ok-vias.vias;
       masters = c.in_ok-masters.masters;
+      rules = c.in_ok-rules.rules;
     } in
     let at : IsLibraryAt c.args.n c.args.self.now library = rw (← c.self.view_is) (record {
       units = refl;
@@ -112,5 +132,6 @@ returns-clause-only g c =
       sites = c.in_ok-sites.ensures.ok;
       vias = c.in_ok-vias.ensures.ok;
       masters = c.in_ok-masters.ensures.ok;
+      rules = c.in_ok-rules.ensures.ok;
     }) in
     λ said is. one_library c.args.n c.args.self.now said library is at

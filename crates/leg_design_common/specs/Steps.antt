@@ -1,0 +1,2 @@
+-- States of tables.
+pub mod TurnRow

@@ -1,9 +1,0 @@
-use Rattle.std.proofs.Common.{◌≡◌, ◌-◌}
-use Rattle.leg_lex.specs.Until.{over}
-use Rattle.leg_grammar.specs.Def.CutArray.{numbers_from, with_cut}
-use Rattle.leg_design_floorplan.proofs.generated_via.push_row.Given as goal
-
-abbrev pub invariant-loop-column : goal.invariant-loop-column
-invariant-loop-column g l =
-    over (with_cut l.library l.placed l.row) l.shapes (numbers_from l.column (l.placed.cuts.columns - l.column))
-    ≡ over (with_cut l.library l.placed l.row) l.initial.shapes (numbers_from 0 l.placed.cuts.columns)

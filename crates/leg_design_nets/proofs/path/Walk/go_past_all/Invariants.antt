@@ -1,6 +1,0 @@
-use Rattle.std.proofs.Common.{◌≡◌, drop}
-use Rattle.leg_design_nets.specs.Steps.Walk.{wires_with}
-use Rattle.leg_design_nets.proofs.path.Walk.go_past_all.Given as goal
-
-abbrev pub invariant-loop-i : goal.invariant-loop-i
-invariant-loop-i g l = wires_with l.scope l.written l.self (drop l.i l.items) ≡ wires_with l.scope l.written l.initial.self l.items

@@ -1,0 +1,2 @@
+pub use Rattle.leg_grammar.specs.Def.NetScope
+pub mod Steps

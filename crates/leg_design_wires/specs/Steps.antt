@@ -1,0 +1,2 @@
+-- What the code knows on its way. No meaning of a public call speaks of it.
+pub mod Walk

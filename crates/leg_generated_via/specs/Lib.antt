@@ -1,0 +1,1 @@
+pub use Rattle.leg_design_records.specs.Records
