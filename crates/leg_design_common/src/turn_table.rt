@@ -1,6 +1,6 @@
 //! Which vias are turned (LEF/DEF 5.8, "Regular Wiring Statement", "Special Wiring Statement").
 
-ghost use Rattle.std.specs.Prelude.{◌≡◌, [], ◌∷◌, nat_eq, OnOk};
+ghost use Rattle.std.specs.Prelude.{◌≡◌, ◌↔◌, [], ◌∷◌, length, nat_eq, IsTrue, OnOk};
 ghost use Rattle.std.specs.HashMap.{get_by};
 ghost use Rattle.leg_grammar.specs.Def.Turns.{turn_number};
 ghost use Rattle.leg_design_common.specs.Steps.TurnRow.{no_row, number_in, row_with, row_or_none};
@@ -120,6 +120,14 @@ impl<A: Allocator + Copy> TurnTable<A> {
             items: Vec::new(alloc),
             rows: HashMap::with_hasher(alloc, BuildHasherDefault::new()),
         }
+    }
+
+    /// Whether no via is turned.
+    #[inline(always)]
+    pub fn is_empty(&self) -> bool
+        ensures { IsTrue result ↔ (length self.now ≡ 0) }
+    {
+        self.items.is_empty()
     }
 
     /// The number of a via in an orientation, where it is turned so.

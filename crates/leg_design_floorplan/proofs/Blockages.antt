@@ -17,7 +17,8 @@ use Rattle.leg_grammar.specs.Def.Guard.{when}
 use Rattle.leg_grammar.specs.Def.Layers.{layer_named_at}
 use Rattle.leg_grammar.specs.Def.Placement.{rect_at}
 use Rattle.leg_design_common.proofs.Sections.{section_below}
-use Rattle.leg_grammar.specs.Def.Blockage.{blocked_layer_at, at_no_plus, one_rect, one_polygon, at_polygon, one_area, at_semicolon, rects_at, blockage_at, is_kept, is_room_for, blockage_entry, blockages_at}
+use Rattle.leg_grammar.specs.Lef.Polygon.{is_read_polygon}
+use Rattle.leg_grammar.specs.Def.Blockage.{blocked_layer_at, at_no_plus, one_rect, one_polygon, one_area, at_semicolon, rects_at, blockage_at, is_kept, is_room_for, blockage_entry, blockages_at}
 use Rattle.leg_grammar.specs.declared.profile.Profile.{Profile}
 use Rattle.leg_grammar.specs.Def.BlockageClause.{blockage_clause}
 use Rattle.leg_design_common.proofs.Spots.{spot_below}
@@ -55,7 +56,7 @@ one_polygon_shortens rects words =
 
 pub one_area_shortens : (profile : Profile) → Shortens (one_area profile)
 unfolding one_area
-one_area_shortens profile rects words = below_if (at_polygon profile words) (one_polygon_shortens rects words) (one_rect_shortens rects words)
+one_area_shortens profile rects words = below_if (is_read_polygon profile words) (one_polygon_shortens rects words) (one_rect_shortens rects words)
 
 pub one_area_shorter : (profile : Profile) (rects more : List RectModel) (words rest : Words) → one_area profile rects words ≡ Some (more, rest)
     → length rest < length words

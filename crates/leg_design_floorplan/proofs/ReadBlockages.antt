@@ -17,7 +17,8 @@ use Rattle.leg_design_common.proofs.ReadPlacement.{rect_gives}
 use Rattle.leg_design_common.proofs.ReadPolygons.{AreAreas, polygon_gives}
 use Rattle.leg_grammar.specs.declared.profile.Profile.{Profile}
 use Rattle.leg_grammar.specs.Def.BlockageClause.{blockage_clause}
-use Rattle.leg_grammar.specs.Def.Blockage.{blocked_layer_at, at_no_plus, one_rect, one_polygon, at_polygon, one_area, at_semicolon, rects_at, blockage_at, is_kept, is_room_for, blockage_entry, blockages_at}
+use Rattle.leg_grammar.specs.Lef.Polygon.{is_read_polygon}
+use Rattle.leg_grammar.specs.Def.Blockage.{blocked_layer_at, at_no_plus, one_rect, one_polygon, one_area, at_semicolon, rects_at, blockage_at, is_kept, is_room_for, blockage_entry, blockages_at}
 use Rattle.leg_design_floorplan.proofs.Blockages.{rect_count_push}
 
 one_more : (rects : List RectModel) (rect : RectModel) → 1 ≤ length (rects ++ rect ∷ [])
@@ -43,7 +44,7 @@ one_polygon_gives rects words each =
 one_area_gives : (profile : Profile) (rects : List RectModel) (words : Words) → All IsArea rects
     → Gives (λ said. AreAreas said.0) (one_area profile rects words)
 unfolding one_area
-one_area_gives profile rects words each = gives_if (at_polygon profile words) (one_polygon_gives rects words each) (one_rect_gives rects words each)
+one_area_gives profile rects words each = gives_if (is_read_polygon profile words) (one_polygon_gives rects words each) (one_rect_gives rects words each)
 
 rects_give : (profile : Profile) (words : Words) → Gives (λ said. AreAreas said.0) (rects_at profile words)
 unfolding rects_at

@@ -8,7 +8,7 @@ ghost use Rattle.leg_lex.specs.NameLookup.{place_of};
 ghost use Rattle.leg_design_records.specs.declared.limits.TheConstants.{ENTRY_LIMIT};
 ghost use Rattle.leg_design_records.specs.Records.{net_names};
 ghost use Rattle.leg_grammar.specs.Def.Terminal.{add_terminal, terminal_form, at_no_terminal};
-ghost use Rattle.leg_grammar.specs.Def.Net.{is_left_out_of_wiring, is_left_out, use_clause, is_rule_clause, rule_clause, wiring_clause, shape_clause, from_plus, past_clause, clause_at, net_clause, plain_clauses, clauses_under, net_name_at, net_in, net_entry, nets_at};
+ghost use Rattle.leg_grammar.specs.Def.Net.{is_left_out_of_wiring, is_left_out, use_clause, is_rule_clause, rule_clause, wiring_clause, shape_clause, from_plus, past_clause, clause_at, net_clause, plain_clauses, net_name_at, net_in, net_entry, nets_at};
 
 use crate::known_pins::KnownPins;
 use crate::net_table::{NetTable, NetsBegun};
@@ -151,6 +151,7 @@ impl<'a, A: Allocator + Copy> Parts<'a, A> {
     }
 
     /// One more clause, from the word after its `+`.
+    #[inline(always)]
     #[tactic(auto, unfolding(leg_grammar::specs::Def::Net::clause_at))]
     fn clause(
         &mut self,
@@ -175,6 +176,7 @@ impl<'a, A: Allocator + Copy> Parts<'a, A> {
     }
 
     /// One more clause.
+    #[inline(always)]
     #[tactic(auto, unfolding(leg_grammar::specs::Def::Net::net_clause))]
     fn add(
         &mut self,
@@ -191,6 +193,7 @@ impl<'a, A: Allocator + Copy> Parts<'a, A> {
 }
 
 /// The clauses of an entry under no rule, or under that of the scope, up to its end.
+#[inline(always)]
 #[tactic(auto, using(crate::proofs::NetClauses::clauses_on, crate::proofs::NetClauses::clauses_end, crate::proofs::NetClauses::clauses_fail, crate::proofs::NetClauses::net_clause_shorter))]
 fn all_clauses<'a, A: Allocator + Copy>(
     alloc: A,
@@ -209,23 +212,6 @@ fn all_clauses<'a, A: Allocator + Copy>(
         parts.add(alloc, scope, special, words)?;
     }
     Ok(parts)
-}
-
-/// What the clauses of an entry say under the rule that one of them names, where they say this under no rule.
-#[tactic(auto, unfolding(leg_grammar::specs::Def::Net::clauses_under))]
-fn clauses_under<'a, A: Allocator + Copy>(
-    alloc: A,
-    scope: &NetScope<'_, 'a, A>,
-    special: bool,
-    words: &mut Cursor<'_, 'a>,
-    plain: Parts<'a, A>,
-) -> Result<Parts<'a, A>, ReadFault>
-    ensures { Means (λ p. p) result (clauses_under scope.now special words.old plain.entry plain.entry.rule) }
-{
-    match plain.rule {
-        None => Ok(plain),
-        Some(rule) => all_clauses(alloc, &scope.under(rule), special, words),
-    }
 }
 
 /// The terminals of a pair of parentheses are added to the entry of this name that is being read. A fault is at the next
@@ -313,7 +299,7 @@ fn net_name<'a, A: Allocator + Copy>(
 
 /// The name, the terminals and the clauses of an entry; its terminals are those of the entry that is being read. Where a clause names a
 /// rule, all clauses are read again under it.
-#[tactic(auto, unfolding(leg_grammar::specs::Def::Net::net_in))]
+#[tactic(auto, unfolding(leg_grammar::specs::Def::Net::net_in, leg_grammar::specs::Def::Net::clauses_under))]
 fn net<'a, A: Allocator + Copy>(
     alloc: A,
     scope: &KnownPins<'_, '_, 'a, A>,
@@ -332,8 +318,10 @@ fn net<'a, A: Allocator + Copy>(
     let name = net_name(table, statement)?;
     all_terminals(alloc, scope, special, others, name, table, statement)?;
     let mut first = statement.again();
-    let plain = all_clauses(alloc, scope.scope(), special, &mut first)?;
-    let parts = clauses_under(alloc, scope.scope(), special, statement, plain)?;
+    let mut parts = all_clauses(alloc, scope.scope(), special, &mut first)?;
+    if let Some(rule) = parts.rule {
+        parts = all_clauses(alloc, &scope.scope().under(rule), special, statement)?;
+    }
     Ok((name, parts))
 }
 

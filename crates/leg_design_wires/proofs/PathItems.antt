@@ -9,6 +9,8 @@ use Rattle.leg_lex.proofs.Until.{Below, Shortens, below_some, below_bind, below_
 use Rattle.leg_lex.proofs.Shorter.{next_below, keyword_below, mark_below, name_below, whole_below}
 use Rattle.leg_lib_records.specs.Joins.{is_wiring_word}
 use Rattle.leg_lib_records.specs.Measure.{rect_between}
+use Rattle.leg_geom.specs.declared.orient.Orient.{Orient}
+use Rattle.leg_grammar.specs.declared.turned_via.TurnedVia.{TurnedVia}
 use Rattle.leg_grammar.specs.declared.path_item.Item.{Item}
 use Rattle.leg_grammar.specs.declared.path_item.Item.TheVariants.{ToPoint, ToVirtual, AtVia, AtArray, AtRect}
 use Rattle.leg_design_records.specs.declared.limits.TheConstants.{PART_LIMIT}
@@ -107,6 +109,23 @@ unfolding turn_of_via_at
 turn_of_via_below scope via words =
     below_bind (omega arith) (orient_below words) (λ orient less.
     below_ask (turn_number scope.turned via orient.0) (λ number. below_some number orient.1 (omega (arith, less))))
+
+-- the number of a turned via, by the orientation that comes next
+abbrev turn_by : List TurnedVia → ℕ → Option (Orient × Words) → Option (ℕ × Words)
+turn_by turned via orient = do
+  way ← orient
+  number ← turn_number turned via way.0
+  Some (number, way.1)
+
+-- where no via is turned, no orientation is read
+pub none_is_turned : (scope : NetScopeModel) (via : ℕ) (words : Words) → length scope.turned ≡ 0 → turn_of_via_at scope via words ≡ None
+unfolding turn_of_via_at
+none_is_turned scope via words none = by scope.turned none (orient_at words) where
+  by : (turned : List TurnedVia) → length turned ≡ 0 → (orient : Option (Orient × Words))
+      → turn_by turned via orient ≡ None
+  by [] nothing None = refl
+  by [] nothing (Some orient) = refl
+  by (one ∷ others) nothing orient = absurd (omega (arith, nothing))
 
 upright_via_below : (via : ℕ) (words : Words) → Below (suc (length words)) (upright_via_at via words)
 unfolding upright_via_at

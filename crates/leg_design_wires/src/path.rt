@@ -190,7 +190,7 @@ impl<A: Allocator + Copy> Walk<A> {
             ext_from: self.extension,
             ext_to: extension,
         };
-        let segment = segment_to(scope, width, &step, place)?;
+        let segment = segment_to(scope, width, step, place)?;
         self.wires.push(segment)?;
         self.at = to;
         self.extension = extension;

@@ -3,7 +3,7 @@
 ghost use Rattle.std.specs.Prelude.{◌≡◌, MatchOption, None, Some};
 ghost use Rattle.leg_lex.specs.Words.{Reads, mark_at};
 ghost use Rattle.leg_lex.specs.Until.{until};
-ghost use Rattle.leg_grammar.specs.Def.PathItem.{coordinate_at, extension_in_point, point_item, first_point_at, rect_item, past_north, turn_of_via_at, upright_via_at, via_at, via_item, array_of_via, via_or_array_item, virtual_item, other_item, item_without_mask, item_at, one_item, at_path_end};
+ghost use Rattle.leg_grammar.specs.Def.PathItem.{coordinate_at, extension_in_point, point_item, first_point_at, rect_item, past_north, turn_of_via_at, upright_via_at, via_at, via_item, array_of_via, via_or_array_item, virtual_item, item_without_mask, one_item, at_path_end};
 
 use crate::coordinate::{point, read_coordinate};
 use crate::path::ItemAt;
@@ -137,6 +137,27 @@ fn turn_of_via<A: Allocator + Copy>(
     scope.turned.number(number, orient)
 }
 
+/// The same; nothing is read past where no such orientation comes next.
+#[inline(always)]
+#[tactic(auto, using(crate::proofs::PathItems::none_is_turned))]
+fn turned_via<A: Allocator + Copy>(
+    scope: &NetScope<'_, '_, A>,
+    number: usize,
+    words: &mut Cursor<'_, '_>,
+) -> Option<usize>
+    ensures reads { MatchOption result (turn_of_via_at scope.now number words.old ≡ None)
+        (λ turned. turn_of_via_at scope.now number words.old ≡ Some (turned, words.new)) }
+    ensures stays { result ≡ None → words.new ≡ words.old }
+{
+    if scope.turned.is_empty() {
+        return None;
+    }
+    let mut ahead = words.again();
+    let turned = turn_of_via(scope, number, &mut ahead)?;
+    *words = ahead;
+    Some(turned)
+}
+
 /// A via that is not turned, of this number.
 #[tactic(auto, unfolding(leg_grammar::specs::Def::PathItem::upright_via_at))]
 fn upright_via(number: usize, words: &mut Cursor<'_, '_>) -> Result<usize, ReadFault>
@@ -173,15 +194,14 @@ pub(crate) fn via<A: Allocator + Copy>(
     let Some(number) = scope.via_named(name) else {
         return Err(first.need(FaultKind::UnknownName, Need::Known(NameKind::Via)));
     };
-    let mut ahead = words.again();
-    if let Some(turned) = turn_of_via(scope, number, &mut ahead) {
-        *words = ahead;
+    if let Some(turned) = turned_via(scope, number, words) {
         return Ok(turned);
     }
     upright_via(number, words)
 }
 
 /// A via.
+#[inline(always)]
 #[tactic(auto, unfolding(leg_grammar::specs::Def::PathItem::via_item))]
 fn via_item<A: Allocator + Copy>(
     scope: &NetScope<'_, '_, A>,
@@ -230,32 +250,8 @@ fn virtual_item(words: &mut Cursor<'_, '_>) -> Result<Item, ReadFault>
     Ok(Item::ToVirtual { x, y })
 }
 
-/// An item that is no point and no rectangle. Arrays of vias are in `SPECIALNETS` only, and virtual points in `NETS`.
-#[tactic(auto, unfolding(leg_grammar::specs::Def::PathItem::other_item))]
-fn other_item<A: Allocator + Copy>(
-    profile: Profile,
-    scope: &NetScope<'_, '_, A>,
-    special: bool,
-    words: &mut Cursor<'_, '_>,
-) -> Result<Item, ReadFault>
-    ensures { Reads (λ i. i) result words.new (other_item profile scope.now special words.old) }
-{
-    match profile {
-        Profile::Narrow => via_item(scope, words),
-        Profile::Wide { .. } => {
-            if special {
-                via_or_array_item(scope, words)
-            } else if words.is_at(b"VIRTUAL") {
-                virtual_item(words)
-            } else {
-                via_item(scope, words)
-            }
-        }
-    }
-}
-
-/// An item of a path without its mask. Rectangles are in `NETS` only.
-#[tactic(auto, unfolding(leg_grammar::specs::Def::PathItem::item_without_mask))]
+/// An item of a path without its mask. Rectangles and virtual points are in `NETS` only, and arrays of vias in `SPECIALNETS`.
+#[tactic(auto, unfolding(leg_grammar::specs::Def::PathItem::item_without_mask, leg_grammar::specs::Def::PathItem::other_item))]
 fn item_without_mask<A: Allocator + Copy>(
     scope: &NetScope<'_, '_, A>,
     special: bool,
@@ -264,31 +260,20 @@ fn item_without_mask<A: Allocator + Copy>(
     ensures { Reads (λ i. i) result words.new (item_without_mask scope.now special words.old) }
 {
     if words.is_at(b"(") {
-        point_item(words)
-    } else if words.is_at(b"RECT") && !special {
-        rect_item(words)
-    } else {
-        other_item(scope.profile, scope, special, words)
+        return point_item(words);
+    }
+    if words.is_at(b"RECT") && !special {
+        return rect_item(words);
+    }
+    match scope.profile {
+        Profile::Wide { .. } if special => via_or_array_item(scope, words),
+        Profile::Wide { .. } if words.is_at(b"VIRTUAL") => virtual_item(words),
+        _ => via_item(scope, words),
     }
 }
 
-/// An item of a path, behind its mask.
-#[tactic(auto, unfolding(leg_grammar::specs::Def::PathItem::item_at, leg_grammar::specs::Mask::past_mask))]
-fn item<A: Allocator + Copy>(
-    scope: &NetScope<'_, '_, A>,
-    special: bool,
-    words: &mut Cursor<'_, '_>,
-) -> Result<Item, ReadFault>
-    ensures { Reads (λ i. i) result words.new (item_at scope.now special words.old) }
-{
-    if is_at_mask(scope.profile, words) {
-        mask(words)?;
-    }
-    item_without_mask(scope, special, words)
-}
-
-/// One more item.
-#[tactic(auto, unfolding(leg_grammar::specs::Def::PathItem::one_item))]
+/// One more item, behind its mask.
+#[tactic(auto, unfolding(leg_grammar::specs::Def::PathItem::one_item, leg_grammar::specs::Def::PathItem::item_at, leg_grammar::specs::Mask::past_mask))]
 fn one_item<'t, A: Allocator + Copy>(
     scope: &NetScope<'_, '_, A>,
     special: bool,
@@ -298,7 +283,10 @@ fn one_item<'t, A: Allocator + Copy>(
     ensures { Reads (λ _. items.new.items) result words.new (one_item scope.now special items.old.items words.old) }
 {
     let place = words.place();
-    let item = item(scope, special, words)?;
+    if is_at_mask(scope.profile, words) {
+        mask(words)?;
+    }
+    let item = item_without_mask(scope, special, words)?;
     items.push(ItemAt::new(item, place))?;
     Ok(())
 }

@@ -8,7 +8,7 @@ ghost use Rattle.leg_lex.specs.Words.{Means};
 ghost use Rattle.leg_geom.specs.Plane.{IsCoordinate, halfway};
 ghost use Rattle.leg_grammar.specs.Def.Rule.{width_in};
 ghost use Rattle.leg_grammar.specs.Def.CutArray.{area_of};
-ghost use Rattle.leg_grammar.specs.Def.Path.{segment_width, plain_segment, other_width, line_start, line_end, line_sides, reach, wide_area, wide_segment, segment_under, segment_to};
+ghost use Rattle.leg_grammar.specs.Def.Path.{segment_width, other_width, line_start, line_end, line_sides, reach, wide_area, wide_segment, segment_to};
 ghost use Rattle.leg_design_records.specs.Wires.{is_straight, default_extension};
 
 use leg_design_common::NetScope;
@@ -75,31 +75,6 @@ fn default_extension<A: Allocator + Copy>(
         Some(_) => 0,
         None => half(width_of_layer(library, layer).unwrap_or(0)),
     }
-}
-
-/// A segment as wide as the path writes or as the layer's wires. One that is neither horizontal nor vertical is `Diagonal`.
-#[tactic(auto, unfolding(leg_grammar::specs::Def::Path::plain_segment))]
-fn plain_segment<A: Allocator + Copy>(
-    library: &Library<'_, A>,
-    written: Option<i64>,
-    step: &PathStep,
-    place: FaultPlace<'_>,
-) -> Result<Wire, ReadFault>
-    ensures { Means (λ w. w) result (plain_segment library.now written step.now.layer step.now.from step.now.ext_from step.now.to step.now.ext_to) }
-{
-    if !is_straight(step.from, step.to) {
-        return Err(place.fault(FaultKind::Diagonal));
-    }
-    let width = segment_width(library, written, step.layer, place)?;
-    let default = default_extension(library, written, step.layer);
-    Ok(Wire::Segment {
-        layer: step.layer,
-        from: step.from,
-        to: step.to,
-        width,
-        ext_from: step.ext_from.unwrap_or(default),
-        ext_to: step.ext_to.unwrap_or(default),
-    })
 }
 
 /// The width that a rule gives wires on a layer.
@@ -251,8 +226,8 @@ fn wide_area(width: i64, step: &PathStep, place: FaultPlace<'_>) -> Result<Rect,
 /// A segment of this width, as the rectangle that its metal is. One that is neither horizontal nor vertical is `Diagonal`, an odd width
 /// is `OddWidth`, and a side of the rectangle beyond the limit of numbers `TooLarge`.
 #[tactic(auto, unfolding(leg_grammar::specs::Def::Path::wide_segment))]
-fn wide_segment(width: i64, step: &PathStep, place: FaultPlace<'_>) -> Result<Wire, ReadFault>
-    ensures { Means (λ w. w) result (wide_segment width step.now.layer step.now.from step.now.ext_from step.now.to step.now.ext_to) }
+fn wide_segment(width: i64, step: PathStep, place: FaultPlace<'_>) -> Result<Wire, ReadFault>
+    ensures { Means (λ w. w) result (wide_segment width step.layer step.from step.ext_from step.to step.ext_to) }
 {
     if !is_straight(step.from, step.to) {
         return Err(place.fault(FaultKind::Diagonal));
@@ -260,7 +235,7 @@ fn wide_segment(width: i64, step: &PathStep, place: FaultPlace<'_>) -> Result<Wi
     if !is_even(width) {
         return Err(place.fault(FaultKind::OddWidth));
     }
-    let rect = wide_area(width, step, place)?;
+    let rect = wide_area(width, &step, place)?;
     Ok(Wire::Patch {
         layer: step.layer,
         at: step.from,
@@ -268,38 +243,39 @@ fn wide_segment(width: i64, step: &PathStep, place: FaultPlace<'_>) -> Result<Wi
     })
 }
 
-/// A segment under a rule, where `other` is the width that the rule gives, if it isn't the layer's.
-#[tactic(auto, unfolding(leg_grammar::specs::Def::Path::segment_under))]
-fn segment_under<A: Allocator + Copy>(
-    library: &Library<'_, A>,
-    other: Option<i64>,
-    step: &PathStep,
-    place: FaultPlace<'_>,
-) -> Result<Wire, ReadFault>
-    ensures { Means (λ w. w) result (segment_under library.now other step.now.layer step.now.from step.now.ext_from step.now.to step.now.ext_to) }
-{
-    match other {
-        Some(width) => wide_segment(width, step, place),
-        None => plain_segment(library, None, step, place),
-    }
-}
-
-/// The segment of a step, of the width of its path.
-#[tactic(auto, unfolding(leg_grammar::specs::Def::Path::segment_to))]
+/// The segment of a step, as wide as its path writes or as the layer's wires, or as its rule gives it. One that is neither horizontal nor
+/// vertical is `Diagonal`.
+#[inline(always)]
+#[tactic(auto, unfolding(leg_grammar::specs::Def::Path::segment_to, leg_grammar::specs::Def::Path::segment_under, leg_grammar::specs::Def::Path::plain_segment))]
 pub(crate) fn segment_to<A: Allocator + Copy>(
     scope: &NetScope<'_, '_, A>,
     width: PathWidth,
-    step: &PathStep,
+    step: PathStep,
     place: FaultPlace<'_>,
 ) -> Result<Wire, ReadFault>
-    ensures { Means (λ w. w) result (segment_to scope.now width step.now.layer step.now.from step.now.ext_from step.now.to step.now.ext_to) }
+    ensures { Means (λ w. w) result (segment_to scope.now width step.layer step.from step.ext_from step.to step.ext_to) }
 {
-    match width {
-        PathWidth::OfLayers => plain_segment(scope.library, None, step, place),
+    let written = match width {
+        PathWidth::OfLayers => None,
         PathWidth::OfRule(rule) => {
-            let other = other_width(scope, rule, step.layer);
-            segment_under(scope.library, other, step, place)
+            if let Some(other) = other_width(scope, rule, step.layer) {
+                return wide_segment(other, step, place);
+            }
+            None
         }
-        PathWidth::Written(width) => plain_segment(scope.library, Some(width), step, place),
+        PathWidth::Written(width) => Some(width),
+    };
+    if !is_straight(step.from, step.to) {
+        return Err(place.fault(FaultKind::Diagonal));
     }
+    let width = segment_width(scope.library, written, step.layer, place)?;
+    let default = default_extension(scope.library, written, step.layer);
+    Ok(Wire::Segment {
+        layer: step.layer,
+        from: step.from,
+        to: step.to,
+        width,
+        ext_from: step.ext_from.unwrap_or(default),
+        ext_to: step.ext_to.unwrap_or(default),
+    })
 }

@@ -3,7 +3,7 @@
 ghost use Rattle.std.specs.Prelude.{◌≡◌, ◌&&◌, drop, Some, codes};
 ghost use Rattle.leg_lex.specs.Words.{Reads, Means, is_at};
 ghost use Rattle.leg_lex.specs.Until.{until};
-ghost use Rattle.leg_grammar.specs.Def.Wiring.{routing_at, past_taper, written_width_at, at_no_shape, past_shape, rule_at, entry_width, taper_at, path_width_at, at_no_new, new_path, paths_at, is_wiring, wiring_start, at_shape_clause, wires_at, wiring_at};
+ghost use Rattle.leg_grammar.specs.Def.Wiring.{routing_at, past_taper, written_width_at, at_no_shape, past_shape, rule_at, entry_width, path_width_at, at_no_new, new_path, paths_at, is_wiring, wiring_start, at_shape_clause, wiring_at};
 ghost use Rattle.leg_design_wires.specs.Steps.Walk.{path_behind};
 
 use crate::path::{ItemAt, path_wires};
@@ -123,37 +123,9 @@ fn entry_width(rule: Option<usize>) -> PathWidth
     }
 }
 
-/// `TAPER` or `TAPERRULE`, if one is written. The narrow profile knows no rules.
-#[tactic(auto, unfolding(leg_grammar::specs::Def::Wiring::taper_at))]
-fn taper<A: Allocator + Copy>(
-    profile: Profile,
-    scope: &NetScope<'_, '_, A>,
-    words: &mut Cursor<'_, '_>,
-) -> Result<PathWidth, ReadFault>
-    ensures { Reads (λ w. w) result words.new (taper_at profile scope.now words.old) }
-{
-    match profile {
-        Profile::Narrow => {
-            past_taper(words)?;
-            Ok(PathWidth::OfLayers)
-        }
-        Profile::Wide { .. } => {
-            if words.is_at(b"TAPERRULE") {
-                words.keyword(b"TAPERRULE")?;
-                let number = rule(scope, words)?;
-                Ok(PathWidth::OfRule(number))
-            } else if words.is_at(b"TAPER") {
-                words.keyword(b"TAPER")?;
-                Ok(PathWidth::OfLayers)
-            } else {
-                Ok(entry_width(scope.rule))
-            }
-        }
-    }
-}
-
-/// What comes between a path's layer and its first point: in `SPECIALNETS` its width, and in `NETS` its rule.
-#[tactic(auto, unfolding(leg_grammar::specs::Def::Wiring::path_width_at))]
+/// What comes between a path's layer and its first point: in `SPECIALNETS` its width, and in `NETS` `TAPER` or `TAPERRULE`, if one is
+/// written. The narrow profile knows no rules.
+#[tactic(auto, unfolding(leg_grammar::specs::Def::Wiring::path_width_at, leg_grammar::specs::Def::Wiring::taper_at))]
 fn path_width<A: Allocator + Copy>(
     scope: &NetScope<'_, '_, A>,
     special: bool,
@@ -166,7 +138,22 @@ fn path_width<A: Allocator + Copy>(
         past_shapes(words)?;
         return Ok(PathWidth::Written(width));
     }
-    taper(scope.profile, scope, words)
+    match scope.profile {
+        Profile::Narrow => {
+            past_taper(words)?;
+            Ok(PathWidth::OfLayers)
+        }
+        Profile::Wide { .. } if words.is_at(b"TAPERRULE") => {
+            words.keyword(b"TAPERRULE")?;
+            let number = rule(scope, words)?;
+            Ok(PathWidth::OfRule(number))
+        }
+        Profile::Wide { .. } if words.is_at(b"TAPER") => {
+            words.keyword(b"TAPER")?;
+            Ok(PathWidth::OfLayers)
+        }
+        Profile::Wide { .. } => Ok(entry_width(scope.rule)),
+    }
 }
 
 /// These wires and those of a path, from its layer to its last item. Of two faults the first one is reported. The path's items are left
@@ -267,7 +254,7 @@ fn wiring_start(clause: &mut Cursor<'_, '_>) -> Result<(), ReadFault>
     Ok(())
 }
 
-/// Whether a clause comes next that gives a rectangle or a via beside paths, or its shape or mask.
+/// Whether a clause comes next that gives a rectangle, a polygon or a via beside paths, or its shape or mask.
 #[tactic(auto, using(leg_lex::proofs::Keywords::read_past, leg_lex::proofs::Keywords::surely_read))]
 fn is_at_shape_clause(words: &Cursor<'_, '_>) -> Result<bool, ReadFault>
     ensures { Means (λ is. is) result (Some (at_shape_clause words.now)) }
@@ -277,34 +264,18 @@ fn is_at_shape_clause(words: &Cursor<'_, '_>) -> Result<bool, ReadFault>
     }
     let mut next = words.again();
     next.keyword(b"+")?;
-    Ok(next.is_at(b"RECT") || next.is_at(b"VIA") || next.is_at(b"SHAPE") || next.is_at(b"MASK"))
+    Ok(
+        next.is_at(b"RECT")
+            || next.is_at(b"POLYGON")
+            || next.is_at(b"VIA")
+            || next.is_at(b"SHAPE")
+            || next.is_at(b"MASK"),
+    )
 }
 
-/// The wires of paths. In `SPECIALNETS` of the wide profile such a clause may stand in their place.
-#[tactic(auto, unfolding(leg_grammar::specs::Def::Wiring::wires_at))]
-fn wires<A: Allocator + Copy>(
-    alloc: A,
-    profile: Profile,
-    scope: &NetScope<'_, '_, A>,
-    special: bool,
-    words: &mut Cursor<'_, '_>,
-) -> Result<Vec<Wire, A>, ReadFault>
-    ensures { Reads (λ v. v.items) result words.new (wires_at profile scope.now special words.old) }
-{
-    match profile {
-        Profile::Narrow => paths(alloc, scope, special, words),
-        Profile::Wide { .. } => {
-            if special && is_at_shape_clause(words)? {
-                Ok(Vec::new(alloc))
-            } else {
-                paths(alloc, scope, special, words)
-            }
-        }
-    }
-}
-
-/// The wires of a clause that contains wiring, from the word after its `+`.
-#[tactic(auto, unfolding(leg_grammar::specs::Def::Wiring::wiring_at))]
+/// The wires of a clause that contains wiring, from the word after its `+`. In `SPECIALNETS` of the wide profile a clause that gives a
+/// shape may stand in the place of paths.
+#[tactic(auto, unfolding(leg_grammar::specs::Def::Wiring::wiring_at, leg_grammar::specs::Def::Wiring::wires_at))]
 pub fn wiring<A: Allocator + Copy>(
     alloc: A,
     scope: &NetScope<'_, '_, A>,
@@ -314,5 +285,8 @@ pub fn wiring<A: Allocator + Copy>(
     ensures { Reads (λ v. v.items) result clause.new (wiring_at scope.now special clause.old) }
 {
     wiring_start(clause)?;
-    wires(alloc, scope.profile, scope, special, clause)
+    match scope.profile {
+        Profile::Wide { .. } if special && is_at_shape_clause(clause)? => Ok(Vec::new(alloc)),
+        _ => paths(alloc, scope, special, clause),
+    }
 }

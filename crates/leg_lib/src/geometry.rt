@@ -1,13 +1,13 @@
 //! The shapes of ports and of obstructions (LEF/DEF 5.8, "Layer Geometries").
 
-ghost use Rattle.std.specs.Prelude.{◌≡◌, ◌≢◌, ◌&&◌, ◌++◌, codes, true, false, Some, OnOk, IfOk, IfErr};
-ghost use Rattle.std.specs.List.{list_all};
+ghost use Rattle.std.specs.Prelude.{◌≡◌, ◌≢◌, ◌++◌, Some, OnOk, IfOk};
 ghost use Rattle.leg_lex.specs.declared.read_fault.FaultKind.TheVariants.{Memory};
-ghost use Rattle.leg_lex.specs.Words.{Reads, Means, is_at};
+ghost use Rattle.leg_lex.specs.Words.{Reads, Means};
 ghost use Rattle.leg_lex.specs.Until.{over};
-ghost use Rattle.leg_grammar.specs.Lef.Geometry.{draws_metal, is_off_metal, is_other_shape, refuses_exceptions, says_nothing, layer_of_geometry, nothing_drawn, on_layer, drawn_rect, shapes_on, drawn_polygon, drawn_copies, width_of_path, drawn_path, drawn_via, written_width, geometry_part, geometry_at};
+ghost use Rattle.leg_grammar.specs.Lef.Geometry.{draws_metal, is_off_metal, is_other_shape, nothing_drawn, on_layer, drawn_rect, shapes_on, drawn_polygon, drawn_copies, width_of_path, drawn_path, drawn_via, written_width, geometry_part, geometry_at};
 
 use crate::copies::{copies, is_iterated, push_copies};
+use crate::geometry_layer::layer_of_geometry;
 use crate::layer::width;
 use crate::path::{half_of, is_read_path, path, path_width};
 use crate::placed_via::{is_placed_via, push_placed_via};
@@ -15,7 +15,7 @@ use crate::point::rect;
 use crate::polygon::{is_read_polygon, polygon};
 use leg_grammar::Profile;
 use leg_grammar::mask::past_mask;
-use leg_lex::{Cursor, FaultKind, Keyword, Micron, NameKind, Need, ReadFault};
+use leg_lex::{Cursor, FaultKind, Keyword, Micron, Need, ReadFault};
 use leg_lib_records::{RawKind, RawLayer, RawLibrary, RawPoint, RawRect, RawShape};
 use std::alloc::{AllocError, Allocator};
 use std::marker::Model;
@@ -28,58 +28,6 @@ fn has_metal(layers: &[RawLayer<'_>], number: usize) -> bool
         Some(layer) => matches!(layer.kind, RawKind::Routing { .. } | RawKind::Cut),
         None => false,
     }
-}
-
-/// Whether `EXCEPTPGNET` is refused.
-fn refuses_exceptions(profile: Profile) -> bool
-    ensures { result ≡ refuses_exceptions profile }
-{
-    match profile {
-        Profile::Narrow => true,
-        Profile::Wide { .. } => false,
-    }
-}
-
-/// Whether the next word is an `EXCEPTPGNET` that is refused.
-fn is_at_refused_exception(profile: Profile, words: &Cursor<'_, '_>) -> bool
-    ensures { result ≡ (refuses_exceptions profile && is_at (codes "EXCEPTPGNET") words.now) }
-{
-    refuses_exceptions(profile) && words.is_at(b"EXCEPTPGNET")
-}
-
-/// Checks that the words after a layer's name have no effect. In the narrow profile `EXCEPTPGNET` is `Unsupported`; what is
-/// no name and not quoted is `Unexpected`.
-#[tactic(auto, using(crate::proofs::DrawnShapes::other_said, crate::proofs::DrawnShapes::exception_said, crate::proofs::DrawnShapes::all_said_nothing, crate::proofs::DrawnShapes::word_shorter))]
-fn nothing_said(profile: Profile, words: &mut Cursor<'_, '_>) -> Result<(), ReadFault>
-    ensures nothing { OnOk result (list_all (says_nothing profile) words.old ≡ true) }
-    ensures something { IfErr result (λ fault. fault.kind ≢ Memory → list_all (says_nothing profile) words.old ≡ false) }
-{
-    'words: while !words.is_at_end() {
-        if is_at_refused_exception(profile, words) {
-            return Err(words.fault(FaultKind::Unsupported));
-        }
-        words.word()?;
-    }
-    Ok(())
-}
-
-/// The number of the layer that a `LAYER` statement names.
-#[tactic(auto, unfolding(leg_grammar::specs::Lef::Geometry::layer_of_geometry))]
-fn layer_of_geometry<A: Allocator + Copy>(
-    profile: Profile,
-    library: &RawLibrary<'_, A>,
-    statement: &mut Cursor<'_, '_>,
-) -> Result<usize, ReadFault>
-    ensures { Means (λ number. number) result (layer_of_geometry profile library.now statement.old) }
-{
-    statement.keyword(b"LAYER")?;
-    let named = statement.again();
-    let name = statement.name()?;
-    let Some(number) = library.layer_named(name) else {
-        return Err(named.need(FaultKind::UnknownName, Need::Known(NameKind::Layer)));
-    };
-    nothing_said(profile, statement)?;
-    Ok(number)
 }
 
 /// Whether a statement is a shape that isn't a rectangle.

@@ -9,6 +9,7 @@ mod first_form;
 mod form;
 mod generated_via;
 mod geometry;
+mod geometry_layer;
 pub mod laws;
 mod layer;
 mod macro_part;

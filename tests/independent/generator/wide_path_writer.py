@@ -77,7 +77,7 @@ class WidePathWriter(PathWriter):
             words = ['+ VIA', *self.via(wire.via), self.point(wire.point, None, None)]
         else:
             words = [self.rect_or_polygon(wire)]
-        return ' '.join([*self.before(words[0].startswith('+ POLYGON')), *words])
+        return ' '.join([*self.before(), *words])
 
     def rect_or_polygon(self, wire):
         """Returns the figure of a segment: a rectangle, or in some cases a polygon and rectangles that are together the same."""
@@ -87,13 +87,12 @@ class WidePathWriter(PathWriter):
             return ' '.join(['+ RECT', layer, *self.corners(rect)])
         return ' '.join(['+ POLYGON', layer, self.writer.polygon(points), *(' '.join(['+ RECT', layer, *self.corners(it)]) for it in rest)])
 
-    def before(self, is_polygon):
-        """Returns clauses before a figure; one of wiring never stands directly before a polygon."""
+    def before(self):
+        """Returns clauses before a figure."""
         status = [f'+ {self.beginning()}'] if self.dice.chance(0.4) else []
         shape = ['+ SHAPE STRIPE'] if self.dice.chance(0.3) else []
         mask = self.mask()
-        others = [*shape, *(['+', *mask] if mask else [])]
-        return others if is_polygon and not others else [*status, *others]
+        return [*status, *shape, *(['+', *mask] if mask else [])]
 
     @staticmethod
     def rect_of(wire):

@@ -37,17 +37,17 @@ class WildWiring:
         """Returns a rectangle of any sides, or a via at some points."""
         words, vias = ['\n '], self.writer.good_vias
         if vias and self.dice.chance(0.5):
-            words += [*self.paths.before(False), '+ VIA', *self.via(self.dice.one_of(vias))]
+            words += [*self.paths.before(), '+ VIA', *self.via(self.dice.one_of(vias))]
             words += [self.writer.point(self.place()) for _ in range(self.dice.between(1, 3))]
         elif has(self.dice, 'polygon of a DEF', 0.4):
-            words += [*self.paths.before(True), '+ POLYGON', self.layers[self.dice.one_of(self.levels)].name, self.writer.polygon(self.walk())]
+            words += [*self.paths.before(), '+ POLYGON', self.layers[self.dice.one_of(self.levels)].name, self.writer.polygon(self.walk())]
         else:
             x, y = self.place()
             width, height = self.dice.between(1, 2 * self.pitch), self.dice.between(1, 2 * self.pitch)
             if self.dice.chance(0.3):
                 width, height = self.dice.one_of(((1, 3), (3, 1), (2, 1), (1, 2), (1, 5), (5, 1)))
             height = max(height, 2 if width == 1 else 1)  # (a square of one unit is no wire)
-            words += [*self.paths.before(False), '+ RECT', self.layers[self.dice.one_of(self.levels)].name, self.writer.corners((x, y, x + width, y + height))]
+            words += [*self.paths.before(), '+ RECT', self.layers[self.dice.one_of(self.levels)].name, self.writer.corners((x, y, x + width, y + height))]
         return ' '.join(words)
 
     def walk(self):

@@ -5,7 +5,7 @@ use Rattle.leg_lex.specs.Until.{until}
 use Rattle.leg_geom.specs.Plane.{RectModel}
 use Rattle.leg_lib_records.specs.Records.{LibraryModel}
 use Rattle.leg_grammar.specs.declared.profile.Profile.{Profile}
-use Rattle.leg_grammar.specs.Profiles.{is_wide}
+use Rattle.leg_grammar.specs.Lef.Polygon.{is_read_polygon}
 use Rattle.leg_grammar.specs.Def.Guard.{when}
 use Rattle.leg_grammar.specs.Def.Placement.{rect_at}
 use Rattle.leg_grammar.specs.Def.Polygon.{polygon_at}
@@ -39,13 +39,9 @@ one_polygon rects words = do
   slabs ← polygon_at start.1
   Some (rects ++ slabs.0, slabs.1)
 
--- a polygon that is read comes next
-abbrev pub at_polygon : Profile → Words → Bool
-at_polygon profile words = is_wide profile && is_at (codes "POLYGON") words
-
 -- one more RECT, or in the wide profile POLYGON
 unfoldable pub one_area : Profile → List RectModel → Words → Option (List RectModel × Words)
-one_area profile rects words = if at_polygon profile words then one_polygon rects words else one_rect rects words
+one_area profile rects words = if is_read_polygon profile words then one_polygon rects words else one_rect rects words
 
 abbrev pub at_semicolon : Words → Bool
 at_semicolon words = is_at (codes ";") words

@@ -121,10 +121,11 @@ wiring_start clause =
       Some (tt, name.1))
     else (next_at clause >>= λ start. Some (tt, start.1))
 
--- whether a clause comes next that gives a rectangle or a via beside paths, or its shape or mask
+-- whether a clause comes next that gives a rectangle, a polygon or a via beside paths, or its shape or mask
 abbrev pub is_shape_clause : Words → Bool
 is_shape_clause clause =
-    is_at (codes "RECT") clause || is_at (codes "VIA") clause || is_at (codes "SHAPE") clause || is_at (codes "MASK") clause
+    is_at (codes "RECT") clause || is_at (codes "POLYGON") clause || is_at (codes "VIA") clause || is_at (codes "SHAPE") clause
+    || is_at (codes "MASK") clause
 
 abbrev pub at_shape_clause : Words → Bool
 at_shape_clause words = is_at (codes "+") words && is_shape_clause (drop 1 words)

@@ -1,0 +1,9 @@
+pub mod Wires
+pub mod Sides
+pub mod OneShape
+pub mod Table
+pub mod Cuts
+pub mod Supply
+pub mod Violations
+pub mod InOrder
+pub mod Steps

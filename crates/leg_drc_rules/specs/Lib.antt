@@ -1,0 +1,11 @@
+pub mod Fault
+pub mod Section
+pub mod Amount
+pub mod Forms
+pub mod Table
+pub mod Records
+pub mod Rules
+pub mod Deck
+pub mod Texts
+pub mod Scale
+pub mod Steps
